@@ -1,0 +1,5 @@
+pub mod Numbers
+pub mod Groups
+pub mod Inverse
+pub mod Texts
+pub mod Elements

@@ -1,0 +1,8 @@
+use mathlib.Core.Path.{_≡_}
+use mathlib.Core.List.{map}
+use lib.ListN.{length, take}
+use Rattle.keyhash.specs.Base64.{digitOf}
+use Rattle.keyhash.proofs.base64.digits_of.Given as given
+
+abbrev pub Inv-loop-i : given.InvT-loop-i
+Inv-loop-i l = (length (l .digits) ≡ 27) × (take (l .i) (l .digits) ≡ map digitOf (take (l .i) (l .chars)))

@@ -1,0 +1,4 @@
+pub mod Numeral
+pub mod Canonical
+pub mod Base64
+pub mod Element

@@ -1,0 +1,133 @@
+// The value of a key hash: 20 bytes as 28 characters of Base64 (RFC 4648).
+ghost use mathlib.Core.Path.{_≡_};
+ghost use mathlib.Core.List.{List, [], _∷_, _++_, map};
+ghost use Prim.Native.Nat.{ℕ, _+_, _-_, _*_, _/_, _%_, _<_, _≤_};
+ghost use lib.ListN.{length, getD, take};
+ghost use Rattle.std.specs.shelf.Digits.{number};
+ghost use Rattle.std.specs.declared.result.Result.the-variants.{Ok, Err};
+ghost use Rattle.std.specs.Orderings.{Decides};
+ghost use Rattle.refusal.specs.declared.Refusal.the-variants.{Malformed};
+ghost use Rattle.keyhash.specs.Numeral.{numeral};
+ghost use Rattle.keyhash.specs.Canonical.{Canonical};
+ghost use Rattle.keyhash.specs.Base64.{character, digitOf, Alphabet-of-RFC-4648, bitString, text, reading, StrayBits};
+use refusal::Refusal;
+
+// The character that stands for six bits.
+fn character_of(v: u8) -> u8
+    requires { ⌜ v < 64 ⌝ }
+    ensures { λ r. ⌜ r ≡ character v ⌝ }
+{
+    match v {
+        0..=25 => b'A' + v,
+        26..=51 => b'a' + (v - 26),
+        52..=61 => b'0' + (v - 52),
+        62 => b'+',
+        _ => b'/',
+    }
+}
+
+// What a character that stands for no six bits is read as.
+const NO_DIGIT: u8 = 64;
+
+// The six bits that a character stands for.
+fn digit_of(c: u8) -> u8
+    ensures { λ r. ⌜ r ≡ digitOf c ⌝ }
+{
+    match char::from(c) {
+        'A'..='Z' => c - b'A',
+        'a'..='z' => c - b'a' + 26,
+        '0'..='9' => c - b'0' + 52,
+        '+' => 62,
+        '/' => 63,
+        _ => NO_DIGIT,
+    }
+}
+
+// The hash's 160 bits and two zero bits, cut into 27 digits of six bits.
+fn cut(hash: [u8; 20]) -> [u8; 27]
+    ensures { λ r. ⌜ r ≡ numeral 64 27 (bitString hash) ⌝ }
+{
+    let mut out = [0; 27];
+    for i in 0..6 {
+        let a = hash[3 * i];
+        let b = hash[3 * i + 1];
+        let c = hash[3 * i + 2];
+        out[4 * i] = a / 4;
+        out[4 * i + 1] = a % 4 * 16 + b / 16;
+        out[4 * i + 2] = b % 16 * 4 + c / 64;
+        out[4 * i + 3] = c % 64;
+    }
+    out[24] = hash[18] / 4;
+    out[25] = hash[18] % 4 * 16 + hash[19] / 16;
+    out[26] = hash[19] % 16 * 4;
+    out
+}
+
+// The 20 bytes that 27 digits of six bits hold, less the last two bits.
+fn join(digits: [u8; 27]) -> [u8; 20]
+    requires { ⌜ ((k : ℕ) → k < 27 → getD digits k 0 < 64) ⌝ }
+    ensures { λ r. ⌜ r ≡ numeral 256 20 (number 64 digits / 4) ⌝ }
+{
+    let mut hash = [0; 20];
+    for i in 0..6 {
+        let s = digits[4 * i];
+        let t = digits[4 * i + 1];
+        let u = digits[4 * i + 2];
+        let v = digits[4 * i + 3];
+        hash[3 * i] = s * 4 + t / 16;
+        hash[3 * i + 1] = t % 16 * 16 + u / 4;
+        hash[3 * i + 2] = u % 4 * 64 + v;
+    }
+    hash[18] = digits[24] * 4 + digits[25] / 16;
+    hash[19] = digits[25] % 16 * 16 + digits[26] / 4;
+    hash
+}
+
+// The digits of the first 27 characters.
+fn digits_of(chars: [u8; 28]) -> [u8; 27]
+    ensures { λ r. ⌜ r ≡ map digitOf (take 27 chars) ⌝ }
+{
+    let mut digits = [0; 27];
+    for i in 0..27 {
+        digits[i] = digit_of(chars[i]);
+    }
+    digits
+}
+
+// Whether each of the digits is one of six bits. Every digit is looked at, so that the loop has no branch.
+fn all_of_six_bits(digits: [u8; 27]) -> bool
+    ensures { λ r. ⌜ Decides r ((k : ℕ) → k < 27 → getD digits k 0 < 64) ⌝ }
+{
+    let mut all = true;
+    for i in 0..27 {
+        all = all & (digits[i] < NO_DIGIT);
+    }
+    all
+}
+
+// The canonical text of a hash.
+pub fn encode(hash: [u8; 20]) -> [u8; 28]
+    ensures canonical_text { λ r. ⌜ r ≡ text hash ⌝ }
+    ensures reads_back { λ r. ⌜ reading r ≡ Ok hash ⌝ }
+    ensures alphabet_of_rfc_4648 { λ _. ⌜ Alphabet-of-RFC-4648 ⌝ }
+{
+    let digits = cut(hash);
+    let mut chars = [b'='; 28];
+    for i in 0..27 {
+        chars[i] = character_of(digits[i]);
+    }
+    chars
+}
+
+// The hash of which the characters are the canonical text.
+pub fn decode(chars: [u8; 28]) -> Result<[u8; 20], Refusal>
+    ensures as_defined { λ r. ⌜ r ≡ reading chars ⌝ }
+    ensures reader_and_writer_are_inverse { λ _. ⌜ Canonical text reading ⌝ }
+    ensures stray_bits_are_refused { λ r. ⌜ (StrayBits chars → r ≡ Err Malformed) ⌝ }
+{
+    let digits = digits_of(chars);
+    if chars[27] != b'=' || !all_of_six_bits(digits) || digits[26] % 4 != 0 {
+        return Err(Refusal::Malformed);
+    }
+    Ok(join(digits))
+}
