@@ -1,29 +1,28 @@
 -- Three bytes are the four digits of six bits that they are cut into.
-use mathlib.Core.Path.{_≡_, refl, _∙_}
-use mathlib.Core.List.{List}
-use Prim.Native.Nat.{ℕ, _+_, _*_, _/_, _%_, _<_}
+use mathlib.Core.Path.{_≡_, refl, sym, ap, subst, _∙_}
+use mathlib.Core.List.{List, [], _∷_}
+use Prim.Native.Nat.{ℕ, _+_, _*_, _/_, _%_, _<_, _≤_}
 use native.Mathlib.Omega.{arith}
-use lib.ListN.{set}
-use Rattle.keyhash.proofs.Numbers.{Written, written-more}
+use borrow.Rule.Slice.PartMut.{putMid}
+use lib.ListN.{length, set}
+use Rattle.std.specs.shelf.Digits.{numberAfter, Under}
+use Rattle.std.proofs.shelf.Elements.{all-getD}
+use Rattle.keyhash.proofs.Numbers.{Written, written-more, written-part, number-next}
 
-pub cut-group : (i m a b c : ℕ) (out : List ℕ) → i < 6 → a < 256 → b < 256 → c < 256 → Written 64 27 (4 * i) m out
-    → Written 64 27 (4 * (i + 1)) (((m * 256 + a) * 256 + b) * 256 + c)
-    (set (set (set (set out (4 * i) (a / 4)) (4 * i + 1) (a % 4 * 16 + b / 16)) (4 * i + 2) (b % 16 * 4 + c / 64)) (4 * i + 3) (c % 64))
-cut-group i m a b c out l la lb lc w =
-    let w1 = written-more 64 27 (4 * i) (4 * i + 1) m (a / 4) out (omega arith) refl (omega arith) w in
-    let w2 = written-more 64 27 (4 * i + 1) (4 * i + 2) _ (a % 4 * 16 + b / 16) _ (omega arith) (omega arith) (omega arith) w1 in
-    let w3 = written-more 64 27 (4 * i + 2) (4 * i + 3) _ (b % 16 * 4 + c / 64) _ (omega arith) (omega arith) (omega arith) w2 in
-    let w4 = written-more 64 27 (4 * i + 3) (4 * (i + 1)) _ (c % 64) _ (omega arith) (omega arith) (omega arith) w3 in
-    (w4 .0, w4 .1, w4 .2 ∙ omega arith)
+pub cut-group : (n k m w a b c : ℕ) (part out : List ℕ) → n + 4 ≡ k → k ≤ 32 → w ≡ 4 → a < 256 → b < 256 → c < 256
+    → part ≡ a / 4 ∷ (a % 4 * 16 + b / 16) ∷ (b % 16 * 4 + c / 64) ∷ c % 64 ∷ []
+    → Written 64 32 n m out → Written 64 32 k (((m * 256 + a) * 256 + b) * 256 + c) (putMid n w out part)
+cut-group n k m w a b c part out ends inside four la lb lc is written =
+    let under : Under 64 (a / 4 ∷ (a % 4 * 16 + b / 16) ∷ (b % 16 * 4 + c / 64) ∷ c % 64 ∷ []) = (omega arith, (omega arith, (omega arith, (omega arith, tt)))) in
+    let more = written-part 64 32 n k m w part out (omega arith) inside (ap length is ∙ sym four) (subst (Under 64) (sym is) under) written in
+    (more .0, more .1, more .2 ∙ ap (numberAfter 64 m) is ∙ omega arith)
 
--- the last two bytes, and two zero bits
-pub cut-last : (m a b : ℕ) (out : List ℕ) → a < 256 → b < 256 → Written 64 27 24 m out
-    → Written 64 27 27 (((m * 256 + a) * 256 + b) * 4) (set (set (set out 24 (a / 4)) 25 (a % 4 * 16 + b / 16)) 26 (b % 16 * 4))
-cut-last m a b out la lb w =
-    let w1 = written-more 64 27 24 25 m (a / 4) out (omega arith) refl (omega arith) w in
-    let w2 = written-more 64 27 25 26 _ (a % 4 * 16 + b / 16) _ (omega arith) refl (omega arith) w1 in
-    let w3 = written-more 64 27 26 27 _ (b % 16 * 4) _ (omega arith) refl (omega arith) w2 in
-    (w3 .0, w3 .1, w3 .2 ∙ omega arith)
+-- without the last of 28 digits, two zero bits are left of eight
+pub cut-last : (n m : ℕ) (out : List ℕ) → n ≡ m * 256 → Written 64 32 28 n out → Written 64 32 27 (m * 4) out
+cut-last n m out e (size-is, under, is) =
+    let small = all-getD (λ d. d < 64) out 27 0 (omega arith) under in
+    let last = number-next 64 out 27 28 (omega arith) refl refl in
+    (size-is, under, omega arith)
 
 pub join-group : (i m s t u v : ℕ) (out : List ℕ) → i < 6 → s < 64 → t < 64 → u < 64 → v < 64 → Written 256 20 (3 * i) m out
     → Written 256 20 (3 * (i + 1)) ((((m * 64 + s) * 64 + t) * 64 + u) * 64 + v)

@@ -6,13 +6,15 @@ use native.Mathlib.Nat.{div-div-eq-div-mul, div-lt-iff-lt-mul, div-add-mod', mod
 use native.Mathlib.Numerals.{add-one}
 use native.Mathlib.Omega.{arith}
 use lib.Arith.{digits-div, digits-mod}
-use lib.ListN.{length, getD, take, set}
+use borrow.Rule.Slice.PartMut.{putMid}
+use lib.ListN.{length, getD, take, drop, set}
 use Rattle.std.specs.Iters.{counting}
-use Rattle.std.specs.shelf.Digits.{number, Under}
+use Rattle.std.specs.shelf.Digits.{number, numberAfter, Under}
 use Rattle.std.proofs.shelf.Counted.{length-map-counting, getD-map-counting, map-counting-more, fill-by-all}
-use Rattle.std.proofs.shelf.Digits.{number-push, number-more, number-lt}
-use Rattle.std.proofs.shelf.Elements.{all-push, all-set, all-getD}
-use Rattle.std.proofs.shelf.Lists.{take-more, take-more-set, take-all, length-set}
+use Rattle.std.proofs.shelf.Digits.{numberAfter-append, number-push, number-more}
+use Rattle.std.proofs.shelf.Elements.{all-push, all-set, all-take, all-drop, all-append, all-getD}
+use Rattle.std.proofs.shelf.Lists.{take-more, take-more-set, take-all, length-take-le, length-drop, length-append, length-set}
+use Rattle.std.proofs.shelf.Parts.{take-putMid}
 use Rattle.keyhash.specs.Numeral.{digitAt, numeral}
 
 pub length-numeral : (b n m : ℕ) → length (numeral b n m) ≡ n
@@ -84,11 +86,22 @@ written-more b size n k m d ds l e small w =
     let is : number b (take (n + 1) (set ds n d)) ≡ m * b + d = ap (number b) (take-more-set ds n d (omega arith)) ∙ number-push b (take n ds) d ∙ ap (λ x. x * b + d) (w .2) in
     (length-set ds n d ∙ w .0, all-set (λ x. x < b) ds n d small (w .1), ap (λ j. number b (take j (set ds n d))) (sym e) ∙ is)
 
--- all digits written are the digits of the number
-pub written-all : (b size m : ℕ) (ds : List ℕ) → Written b size size m ds → ds ≡ numeral b size m
-written-all b size m ds w =
-    let whole : number b ds ≡ m = ap (number b) (sym (take-all size ds (omega arith))) ∙ w .2 in
-    sym (numeral-of-number b size ds (w .1) (w .0)) ∙ ap (numeral b size) whole
+-- a part more, written at once; k is where it ends, and w its length
+pub written-part : (b size n k m w : ℕ) (part ds : List ℕ) → n + w ≡ k → k ≤ size → length part ≡ w → Under b part → Written b size n m ds → Written b size k (numberAfter b m part) (putMid n w ds part)
+written-part b size n k m w part ds ends inside long under (size-is, small, is) =
+    let front : take k (putMid n w ds part) ≡ take n ds ++ part = take-putMid n w ds part k (omega arith) (omega arith) in
+    let rest = drop w (drop n ds) in (
+      length-append (take n ds) (part ++ rest) ∙ ap (λ x. length (take n ds) + x) (length-append part rest)
+          ∙ (let p = length-take-le n ds (omega arith) in let q = length-drop w (drop n ds) in let r = length-drop n ds in omega arith),
+      all-append (λ d. d < b) (take n ds) (part ++ rest) (all-take (λ d. d < b) n ds small) (all-append (λ d. d < b) part rest under (all-drop (λ d. d < b) w (drop n ds) (all-drop (λ d. d < b) n ds small))),
+      ap (number b) front ∙ numberAfter-append b 0 (take n ds) part ∙ ap (λ x. numberAfter b x part) is,
+    )
+
+-- the digits written are those of the number
+pub written-digits : (b size n m : ℕ) (ds : List ℕ) → n ≤ size → Written b size n m ds → take n ds ≡ numeral b n m
+written-digits b size n m ds l w =
+    let long : length (take n ds) ≡ n = length-take-le n ds (omega arith) in
+    sym (numeral-of-number b n (take n ds) (all-take (λ d. d < b) n ds (w .1)) long) ∙ ap (numeral b n) (w .2)
 
 -- the number of one element more of a list; k is n + 1
 pub number-next : (b : ℕ) (ds : List ℕ) (n k : ℕ) {m : ℕ} → n < length ds → n + 1 ≡ k → number b (take n ds) ≡ m → number b (take k ds) ≡ m * b + getD ds n 0

@@ -3,17 +3,18 @@ use mathlib.Core.Path.{_≡_, refl, sym, ap, _∙_, subst}
 use mathlib.Core.List.{List, [], _∷_, _++_, map}
 use Prim.Native.Nat.{ℕ, _+_, _*_, _/_, _%_, _^_, _<_, _≤_}
 use native.Mathlib.Omega.{arith}
+use borrow.Author.Needs.{needs}
 use lib.ListN.{length, getD, set, take}
 use Rattle.std.specs.shelf.Digits.{number, Under}
 use Rattle.std.proofs.shelf.Digits.{number-lt}
-use Rattle.std.proofs.shelf.Elements.{all-getD, all-from-getD}
+use Rattle.std.proofs.shelf.Elements.{all-getD, all-from-getD, all-take, all-append}
 use Rattle.std.proofs.shelf.Lists.{map-append, length-map, length-push, length-append, length-take-le, take-at, take-all, take-more, take-more-set, getD-at, getD-map, getD-take, getD-append-left, append-assoc, append-nil}
 use Rattle.std.proofs.shelf.Ways.{tells}
 use Rattle.std.specs.declared.result.Result.the-variants.{Ok, Err}
 use Rattle.refusal.specs.declared.Refusal.the-variants.{Malformed}
 use Rattle.keyhash.specs.Canonical.{KeyHash, Canonical}
 use Rattle.keyhash.specs.Numeral.{numeral}
-use Rattle.keyhash.specs.Base64.{character, digitOf, bitString, text, spelled, reading, StrayBits}
+use Rattle.keyhash.specs.Base64.{character, digitOf, padding, bitString, text, spelled, reading, StrayBits}
 use Rattle.keyhash.proofs.Numbers.{length-numeral, under-numeral, numeral-step, number-of-numeral, numeral-of-number, number-next}
 use Rattle.keyhash.proofs.Inverse as inverse
 
@@ -25,6 +26,10 @@ map-more f xs out i y l m e is =
     ∙ ap (λ z. map f (take i xs) ++ z ∷ []) e
     ∙ sym (map-append f (take i xs) (getD xs i 0 ∷ []))
     ∙ ap (map f) (sym (take-more xs i 0 l))
+
+-- and at its end
+pub map-all : (f : ℕ → ℕ) (xs out : List ℕ) (n : ℕ) → length xs ≤ n → length out ≤ n → take n out ≡ map f (take n xs) → out ≡ map f xs
+map-all f xs out n l m is = sym (take-all n out m) ∙ is ∙ ap (map f) (take-all n xs l)
 
 digit-of-character : (v : ℕ) → v < 64 → digitOf (character v) ≡ v
 digit-of-character v h = grind (arith, tells)
@@ -121,27 +126,42 @@ readable-text chars len good =
     ∙ ap (λ xs. xs ++ 61 ∷ []) (sym written)
     ∙ ap (λ n. map character (numeral 64 27 n) ++ 61 ∷ []) (sym bits)
 
--- the same of the digits, one by one
-module _ (chars ds : List ℕ) (len : length chars ≡ 28) (are : ds ≡ map digitOf (take 27 chars)) where
+-- the same of the padded characters' digits, one by one
+module _ (chars ds : List ℕ) (len : length chars ≡ 28) (are : ds ≡ map digitOf (take 27 chars ++ padding)) where
   front : length (take 27 chars) ≡ 27
   front = length-take-le 27 chars (omega arith)
 
-  long : length ds ≡ 27
-  long = ap length are ∙ length-map (take 27 chars) digitOf ∙ front
+  parts : ds ≡ map digitOf (take 27 chars) ++ map digitOf padding
+  parts = are ∙ map-append digitOf (take 27 chars) padding
+
+  mapped : length (map digitOf (take 27 chars)) ≡ 27
+  mapped = length-map (take 27 chars) digitOf ∙ front
+
+  pub spelled-digits : take 27 ds ≡ map digitOf (take 27 chars)
+  spelled-digits = ap (take 27) parts ∙ take-at (map digitOf (take 27 chars)) (map digitOf padding) 27 mapped
+
+  long : length ds ≡ 32
+  long = ap length parts ∙ length-append (map digitOf (take 27 chars)) (map digitOf padding) ∙ ap (λ n. n + 5) mapped
 
   last : getD ds 26 0 ≡ digitOf (getD chars 26 0)
-  last = ap (λ xs. getD xs 26 0) are ∙ getD-map digitOf (take 27 chars) 26 0 0 (omega (arith, front)) ∙ ap digitOf (getD-take 27 chars 26 0 (omega arith))
+  last =
+      sym (getD-take 27 ds 26 0 (omega arith))
+      ∙ ap (λ xs. getD xs 26 0) spelled-digits
+      ∙ getD-map digitOf (take 27 chars) 26 0 0 (omega (arith, front))
+      ∙ ap digitOf (getD-take 27 chars 26 0 (omega arith))
 
-  pub readable-from-digits : getD chars 27 0 ≡ 61 → ((k : ℕ) → k < 27 → getD ds k 0 < 64) → getD ds 26 0 % 4 ≡ 0 → Readable chars
+  pub readable-from-digits : getD chars 27 0 ≡ 61 → ((k : ℕ) → k < 32 → getD ds k 0 < 64) → getD ds 26 0 % 4 ≡ 0 → Readable chars
   readable-from-digits padded small zeros =
       record {
-        alphabet = subst (Under 64) are (all-from-getD (λ d. d < 64) ds 0 (λ k l. small k (omega (arith, long))));
+        alphabet = subst (Under 64) spelled-digits (all-take (λ d. d < 64) 27 ds (all-from-getD (λ d. d < 64) ds 0 (λ k l. small k (omega (arith, long)))));
         padded = padded;
         no-stray = ap (λ d. d % 4) (sym last) ∙ zeros;
       }
 
-  pub digits-of-readable : Readable chars → (k : ℕ) → k < 27 → getD ds k 0 < 64
-  digits-of-readable good k l = all-getD (λ d. d < 64) ds k 0 (omega (arith, long)) (subst (Under 64) (sym are) (good .alphabet))
+  pub digits-of-readable : Readable chars → (k : ℕ) → k < 32 → getD ds k 0 < 64
+  digits-of-readable good k l =
+      let zeros : Under 64 (map digitOf padding) = search needs in
+      all-getD (λ d. d < 64) ds k 0 (omega (arith, long)) (subst (Under 64) (sym parts) (all-append (λ d. d < 64) _ _ (good .alphabet) zeros))
 
   pub last-of-readable : Readable chars → getD ds 26 0 % 4 ≡ 0
   last-of-readable good = ap (λ d. d % 4) last ∙ good .no-stray

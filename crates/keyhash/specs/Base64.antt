@@ -21,6 +21,10 @@ character v = cond (ltb v 26) (v + 65) (cond (ltb v 52) (v + 71) (cond (ltb v 62
 abbrev pub digitOf : ℕ → ℕ
 digitOf c = cond (leb 65 c && leb c 90) (c - 65) (cond (leb 97 c && leb c 122) (c - 71) (cond (leb 48 c && leb c 57) (c + 4) (cond (eqb c 43) 62 (cond (eqb c 47) 63 64))))
 
+-- five characters that stand for 0
+abbrev pub padding : List ℕ
+padding = codes "AAAAA"
+
 -- the alphabet, in the order in which RFC 4648 prints it
 abbrev pub Alphabet-of-RFC-4648 : Type 0
 Alphabet-of-RFC-4648 = map character (counting 0 64) ≡ codes "ABCDEFGHIJKLMNOPQRSTUVWXYZabcdefghijklmnopqrstuvwxyz0123456789+/"

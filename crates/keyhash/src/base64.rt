@@ -9,7 +9,7 @@ ghost use Rattle.std.specs.Orderings.{Decides};
 ghost use Rattle.refusal.specs.declared.Refusal.the-variants.{Malformed};
 ghost use Rattle.keyhash.specs.Numeral.{numeral};
 ghost use Rattle.keyhash.specs.Canonical.{Canonical};
-ghost use Rattle.keyhash.specs.Base64.{character, digitOf, Alphabet-of-RFC-4648, bitString, text, reading, StrayBits};
+ghost use Rattle.keyhash.specs.Base64.{character, digitOf, padding, Alphabet-of-RFC-4648, bitString, text, reading, StrayBits};
 use refusal::Refusal;
 
 // The character that stands for six bits.
@@ -43,30 +43,40 @@ fn digit_of(c: u8) -> u8
     }
 }
 
-// The hash's 160 bits and two zero bits, cut into 27 digits of six bits.
-fn cut(hash: [u8; 20]) -> [u8; 27]
-    ensures { λ r. ⌜ r ≡ numeral 64 27 (bitString hash) ⌝ }
+// The loops over characters go over 32 places, of which 27 are used: two whole vectors of sixteen bytes.
+const PLACES: usize = 32;
+
+// The four digits of six bits that three bytes are cut into, built in one word so that they are stored at once.
+fn four_digits(a: u8, b: u8, c: u8) -> [u8; 4]
+    ensures { λ r. ⌜ r ≡ (a / 4) ∷ (a % 4 * 16 + b / 16) ∷ (b % 16 * 4 + c / 64) ∷ (c % 64) ∷ [] ⌝ }
 {
-    let mut out = [0; 27];
+    let bits = u32::from_be_bytes([0, a, b, c]);
+    let first = bits / 0x4_0000;
+    let second = bits / 0x1000 % 64;
+    let third = bits / 64 % 64;
+    let fourth = bits % 64;
+    (first + second * 0x100 + third * 0x1_0000 + fourth * 0x100_0000).to_le_bytes()
+}
+
+// The hash's 160 bits and two zero bits, cut into 27 digits of six bits.
+fn cut(hash: [u8; 20]) -> [u8; 32]
+    ensures digits { λ r. ⌜ take 27 r ≡ numeral 64 27 (bitString hash) ⌝ }
+    ensures six_bits { λ r. ⌜ ((k : ℕ) → k < 32 → getD r k 0 < 64) ⌝ }
+{
+    let mut out = [0; PLACES];
     for i in 0..6 {
-        let a = hash[3 * i];
-        let b = hash[3 * i + 1];
-        let c = hash[3 * i + 2];
-        out[4 * i] = a / 4;
-        out[4 * i + 1] = a % 4 * 16 + b / 16;
-        out[4 * i + 2] = b % 16 * 4 + c / 64;
-        out[4 * i + 3] = c % 64;
+        let group = four_digits(hash[3 * i], hash[3 * i + 1], hash[3 * i + 2]);
+        out[4 * i..4 * i + 4].copy_from_slice(&group);
     }
-    out[24] = hash[18] / 4;
-    out[25] = hash[18] % 4 * 16 + hash[19] / 16;
-    out[26] = hash[19] % 16 * 4;
+    let group = four_digits(hash[18], hash[19], 0);
+    out[24..28].copy_from_slice(&group);
     out
 }
 
 // The 20 bytes that 27 digits of six bits hold, less the last two bits.
-fn join(digits: [u8; 27]) -> [u8; 20]
-    requires { ⌜ ((k : ℕ) → k < 27 → getD digits k 0 < 64) ⌝ }
-    ensures { λ r. ⌜ r ≡ numeral 256 20 (number 64 digits / 4) ⌝ }
+fn join(digits: [u8; 32]) -> [u8; 20]
+    requires { ⌜ ((k : ℕ) → k < 32 → getD digits k 0 < 64) ⌝ }
+    ensures { λ r. ⌜ r ≡ numeral 256 20 (number 64 (take 27 digits) / 4) ⌝ }
 {
     let mut hash = [0; 20];
     for i in 0..6 {
@@ -83,23 +93,44 @@ fn join(digits: [u8; 27]) -> [u8; 20]
     hash
 }
 
-// The digits of the first 27 characters.
-fn digits_of(chars: [u8; 28]) -> [u8; 27]
-    ensures { λ r. ⌜ r ≡ map digitOf (take 27 chars) ⌝ }
+// The character of each digit.
+fn characters_of(digits: [u8; 32]) -> [u8; 32]
+    requires { ⌜ ((k : ℕ) → k < 32 → getD digits k 0 < 64) ⌝ }
+    ensures { λ r. ⌜ r ≡ map character digits ⌝ }
 {
-    let mut digits = [0; 27];
-    for i in 0..27 {
-        digits[i] = digit_of(chars[i]);
+    let mut out = [0; PLACES];
+    for i in 0..PLACES {
+        out[i] = character_of(digits[i]);
     }
-    digits
+    out
+}
+
+// The digit of each character.
+fn digits_of(chars: [u8; 32]) -> [u8; 32]
+    ensures { λ r. ⌜ r ≡ map digitOf chars ⌝ }
+{
+    let mut out = [0; PLACES];
+    for i in 0..PLACES {
+        out[i] = digit_of(chars[i]);
+    }
+    out
+}
+
+// The first 27 characters, and five that stand for 0.
+fn padded(chars: [u8; 28]) -> [u8; 32]
+    ensures { λ r. ⌜ r ≡ take 27 chars ++ padding ⌝ }
+{
+    let mut out = [b'A'; PLACES];
+    out[0..27].copy_from_slice(&chars[0..27]);
+    out
 }
 
 // Whether each of the digits is one of six bits. Every digit is looked at, so that the loop has no branch.
-fn all_of_six_bits(digits: [u8; 27]) -> bool
-    ensures { λ r. ⌜ Decides r ((k : ℕ) → k < 27 → getD digits k 0 < 64) ⌝ }
+fn all_of_six_bits(digits: [u8; 32]) -> bool
+    ensures { λ r. ⌜ Decides r ((k : ℕ) → k < 32 → getD digits k 0 < 64) ⌝ }
 {
     let mut all = true;
-    for i in 0..27 {
+    for i in 0..PLACES {
         all = all & (digits[i] < NO_DIGIT);
     }
     all
@@ -111,12 +142,10 @@ pub fn encode(hash: [u8; 20]) -> [u8; 28]
     ensures reads_back { λ r. ⌜ reading r ≡ Ok hash ⌝ }
     ensures alphabet_of_rfc_4648 { λ _. ⌜ Alphabet-of-RFC-4648 ⌝ }
 {
-    let digits = cut(hash);
-    let mut chars = [b'='; 28];
-    for i in 0..27 {
-        chars[i] = character_of(digits[i]);
-    }
-    chars
+    let chars = characters_of(cut(hash));
+    let mut out = [b'='; 28];
+    out[0..27].copy_from_slice(&chars[0..27]);
+    out
 }
 
 // The hash of which the characters are the canonical text.
@@ -125,7 +154,7 @@ pub fn decode(chars: [u8; 28]) -> Result<[u8; 20], Refusal>
     ensures reader_and_writer_are_inverse { λ _. ⌜ Canonical text reading ⌝ }
     ensures stray_bits_are_refused { λ r. ⌜ (StrayBits chars → r ≡ Err Malformed) ⌝ }
 {
-    let digits = digits_of(chars);
+    let digits = digits_of(padded(chars));
     if chars[27] != b'=' || !all_of_six_bits(digits) || digits[26] % 4 != 0 {
         return Err(Refusal::Malformed);
     }

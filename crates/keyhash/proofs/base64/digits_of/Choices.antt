@@ -5,4 +5,4 @@ use Rattle.keyhash.specs.Base64.{digitOf}
 use Rattle.keyhash.proofs.base64.digits_of.Given as given
 
 abbrev pub Inv-loop-i : given.InvT-loop-i
-Inv-loop-i l = (length (l .digits) ≡ 27) × (take (l .i) (l .digits) ≡ map digitOf (take (l .i) (l .chars)))
+Inv-loop-i l = (length (l .out) ≡ 32) × (take (l .i) (l .out) ≡ map digitOf (take (l .i) (l .chars)))

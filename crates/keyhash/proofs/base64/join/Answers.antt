@@ -5,7 +5,7 @@ use lib.ListN.{length, getD, take}
 use Rattle.std.specs.shelf.Digits.{number}
 use Rattle.std.proofs.shelf.Lists.{take-all}
 use Rattle.keyhash.proofs.Groups.{join-group, join-last}
-use Rattle.keyhash.proofs.Numbers.{Written, written-all, number-next}
+use Rattle.keyhash.proofs.Numbers.{Written, written-digits, number-next}
 use Rattle.keyhash.proofs.base64.join.Needs as need
 
 pub mul-hash : need.mul-hash
@@ -51,5 +51,5 @@ returns c =
     let one = number-next 64 d 24 25 (omega arith) refl refl in
     let two = number-next 64 d 25 26 (omega arith) refl one in
     let three = number-next 64 d 26 27 (omega arith) refl two in
-    let all : number 64 d ≡ _ = ap (number 64) (sym (take-all 27 (c .args .digits) (omega arith))) ∙ three in
-    written-all 256 20 _ _ (done .0, done .1, done .2 ∙ ap (λ n. n / 4) (sym all))
+    let written = written-digits 256 20 20 _ _ (omega arith) (done .0, done .1, done .2 ∙ ap (λ n. n / 4) (sym three)) in
+    sym (take-all 20 _ (omega (arith, done .0))) ∙ written
