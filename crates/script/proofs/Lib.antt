@@ -1,0 +1,4 @@
+pub mod Hexes
+pub mod Words
+pub mod Played
+pub mod Repeated

@@ -1,0 +1,35 @@
+use mathlib.Core.Path.{_≡_, sym, ap, _∙_}
+use lib.Chars.{codes}
+use Rattle.std.proofs.shelf.Equals.{matches-decides}
+use Rattle.std.proofs.shelf.Ways.{not-from-decides}
+use Rattle.script.specs.Statements.{hash, text}
+use Rattle.script.proofs.Words.{says-hash, says-text, says-unknown}
+use Rattle.script.proofs.statement.parse.Needs as need
+
+pub returns-then-eq : need.returns-then-eq
+returns-then-eq c =
+    let word = matches-decides _ (codes "hash") _ (c .eq .ensures) .0 (c .if-eq .taken) in
+    record {
+      says-what-the-line-says =
+          ap hash (c .split-once .ensures .after-the-first)
+          ∙ sym (says-hash (c .args .line .now) (sym (c .if-is-blank .ensures tt)) (sym (c .if-is-comment .ensures tt)) (sym (c .split-once .ensures .before-the-first) ∙ word));
+    }
+
+pub returns-then-eq-2 : need.returns-then-eq-2
+returns-then-eq-2 c =
+    let word = matches-decides _ (codes "text") _ (c .eq-2 .ensures) .0 (c .if-eq-2 .taken) in
+    record {
+      says-what-the-line-says =
+          ap text (c .split-once .ensures .after-the-first)
+          ∙ sym (says-text (c .args .line .now) (sym (c .if-is-blank .ensures tt)) (sym (c .if-is-comment .ensures tt)) (sym (c .split-once .ensures .before-the-first) ∙ word));
+    }
+
+pub returns : need.returns
+returns c =
+    let no-hash = not-from-decides _ (matches-decides _ (codes "hash") _ (c .eq .ensures)) (c .if-eq .left) in
+    let no-text = not-from-decides _ (matches-decides _ (codes "text") _ (c .eq-2 .ensures)) (c .if-eq-2 .left) in
+    record {
+      says-what-the-line-says =
+          sym (says-unknown (c .args .line .now) (sym (c .if-is-blank .ensures tt)) (sym (c .if-is-comment .ensures tt))
+          (λ e. no-hash (c .split-once .ensures .before-the-first ∙ e)) (λ e. no-text (c .split-once .ensures .before-the-first ∙ e)));
+    }

@@ -1,0 +1,30 @@
+-- Bytes as hexadecimal digits, two for each byte.
+use mathlib.Core.Bool.{Bool, true, cond, _&&_}
+use mathlib.Core.List.{List, [], _∷_, map}
+use Prim.Native.Nat.{ℕ, _+_, _-_, _*_}
+use lib.Dec.{ltb, leb, eqb}
+use lib.ListN.{length}
+use Rattle.std.specs.declared.option.Option.{Option}
+use Rattle.std.specs.declared.option.Option.the-variants.{Some, None}
+use Rattle.std.specs.shelf.Digits.{number}
+use Rattle.keyhash.specs.Numeral.{numeral}
+
+-- the digit of a number below 16: 0 to 9, then a to f
+abbrev pub hexCharacter : ℕ → ℕ
+hexCharacter v = cond (ltb v 10) (v + 48) (v + 87)
+
+-- the number of a digit, in either case; 16 where it is none
+abbrev pub hexValue : ℕ → ℕ
+hexValue c = cond (leb 48 c && leb c 57) (c - 48) (cond (leb 97 c && leb c 102) (c - 87) (cond (leb 65 c && leb c 70) (c - 55) 16))
+
+abbrev pub allHex : List ℕ → Bool
+allHex [] = true
+allHex (c ∷ cs) = ltb (hexValue c) 16 && allHex cs
+
+-- the digits of some bytes: those of the number that the bytes write
+unfoldable pub hexText : List ℕ → List ℕ
+hexText bytes = map hexCharacter (numeral 16 (2 * length bytes) (number 256 bytes))
+
+-- the n bytes that some digits write, if there are twice as many and each is a digit
+unfoldable pub hexBytes : ℕ → List ℕ → Option (List ℕ)
+hexBytes n hex = cond (eqb (length hex) (2 * n) && allHex hex) (Some (numeral 256 n (number 16 (map hexValue hex)))) None

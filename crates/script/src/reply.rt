@@ -1,0 +1,125 @@
+// What is answered to a statement, and the line that says so.
+ghost use mathlib.Core.Path.{_≡_};
+ghost use mathlib.Core.List.{List, [], _∷_, _++_};
+ghost use lib.Chars.{codes};
+ghost use Rattle.std.specs.Of.Vec.{vec-items};
+ghost use Rattle.std.specs.Vec.{made};
+ghost use Rattle.script.specs.Hex.{hexText, hexBytes};
+ghost use Rattle.script.specs.Replies.{hashReply, textReply, replyTo, reason, place, printed};
+ghost use Rattle.script.specs.Statements.{said};
+use crate::hex;
+use crate::statement::Statement;
+use keyhash::element;
+use std::alloc::AllocError;
+use std::alloc::Global;
+
+// What is wrong with a line that is no statement.
+#[derive(Clone, Copy, PartialEq, Eq, Debug)]
+pub enum Mistake {
+    UnknownStatement,
+    NoText,
+    NotFortyDigits,
+}
+
+// The answer to a statement.
+#[derive(Clone, Copy)]
+pub enum Reply {
+    // The hash that a text reads as.
+    Hash([u8; 20]),
+    // A text that is the text of no hash.
+    Malformed,
+    // The text of a hash.
+    Text([u8; 119]),
+    // The line is no statement.
+    Mistaken(Mistake),
+}
+
+impl Mistake {
+    // The reason that is given.
+    pub fn reason(self) -> &'static [u8]
+        ensures reason_as_defined { λ r. ⌜ now r ≡ reason self ⌝ }
+    {
+        match self {
+            Mistake::UnknownStatement => b"unknown statement, expected: hash TEXT or text HEX",
+            Mistake::NoText => b"no text, expected: hash TEXT",
+            Mistake::NotFortyDigits => b"not 40 hexadecimal digits, expected: text HEX",
+        }
+    }
+}
+
+// The answer to `hash TEXT`.
+fn read(text: &[u8]) -> Reply
+    ensures { λ r. ⌜ r ≡ hashReply (now (text .entry)) ⌝ }
+{
+    if text.is_empty() {
+        return Reply::Mistaken(Mistake::NoText);
+    }
+    match element::read(text) {
+        Ok(hash) => Reply::Hash(hash),
+        Err(_) => Reply::Malformed,
+    }
+}
+
+// The answer to `text HEX`.
+fn write(hex: &[u8]) -> Reply
+    ensures { λ r. ⌜ r ≡ textReply (hexBytes 20 (now (hex .entry))) ⌝ }
+{
+    let mut hash = [0; 20];
+    if !hex::decode(hex, &mut hash) {
+        return Reply::Mistaken(Mistake::NotFortyDigits);
+    }
+    Reply::Text(element::write(hash))
+}
+
+// The answer to a statement, if it says something.
+pub fn evaluate(statement: Statement<'_>) -> Option<Reply>
+    ensures answer_as_defined { λ r. ⌜ r ≡ replyTo (said (statement .entry)) ⌝ }
+{
+    match statement {
+        Statement::Nothing => None,
+        Statement::Hash(text) => Some(read(text)),
+        Statement::Text(hex) => Some(write(hex)),
+        Statement::Unknown => Some(Reply::Mistaken(Mistake::UnknownStatement)),
+    }
+}
+
+// A word, and what follows it.
+fn labelled(heap: Global, label: &[u8], rest: &[u8]) -> Result<Vec<u8>, AllocError>
+    ensures { λ r. ⌜ made r (λ v. vec-items v ≡ now (label .entry) ++ now (rest .entry)) ⌝ }
+{
+    let mut out = Vec::new(heap);
+    out.extend_from_slice(label)?;
+    out.extend_from_slice(rest)?;
+    Ok(out)
+}
+
+// The line for a hash that was read.
+fn hash_line(heap: Global, hash: &[u8]) -> Result<Vec<u8>, AllocError>
+    ensures { λ r. ⌜ made r (λ v. vec-items v ≡ codes "hash " ++ hexText (now (hash .entry))) ⌝ }
+{
+    let mut out = Vec::new(heap);
+    out.extend_from_slice(b"hash ")?;
+    hex::push(&mut out, hash)?;
+    Ok(out)
+}
+
+// The line for a mistake on the line of a number.
+fn mistake_line(heap: Global, number: u64, mistake: Mistake) -> Result<Vec<u8>, AllocError>
+    ensures { λ r. ⌜ made r (λ v. vec-items v ≡ place number ++ reason mistake) ⌝ }
+{
+    let mut out = format!(heap, "error {number}: ")?.into_bytes();
+    out.extend_from_slice(mistake.reason())?;
+    Ok(out)
+}
+
+// The line that is printed for an answer, less its line feed.
+pub fn line(heap: Global, number: u64, reply: &Reply) -> Result<Vec<u8>, AllocError>
+    ensures line_as_defined { λ r. ⌜ made r (λ v. vec-items v ≡ printed number (now (reply .entry))) ⌝ }
+{
+    match reply {
+        Reply::Hash(hash) => hash_line(heap, hash),
+        Reply::Malformed => labelled(heap, b"malformed", &[]),
+        Reply::Text(text) => labelled(heap, b"text ", text),
+        Reply::Mistaken(mistake) => mistake_line(heap, number, *mistake),
+    }
+}
