@@ -36,9 +36,9 @@ fn report(rt: &LibcRuntime, account: &Account) -> Result<(), AnyError> {
 fn run(rt: &LibcRuntime) -> Result<(), AnyError> {
     let statements = input(rt)?;
     let session = play(rt.alloc(), statements.as_slice())?;
-    rt.stdout().write_all(session.output())?;
-    report(rt, session.account())?;
-    if session.account().has_mistakes() {
+    rt.stdout().write_all(session.output.as_slice())?;
+    report(rt, &session.account)?;
+    if session.account.has_mistakes() {
         return Err("some lines are no statements".into());
     }
     Ok(())

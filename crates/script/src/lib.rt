@@ -1,7 +1,7 @@
 // Statements for a hub, one a line: what each says, what is answered, and an account of them all.
 pub mod account;
 pub mod hex;
-pub mod lines;
+mod lines;
 pub mod play;
 pub mod reply;
 pub mod statement;

@@ -3,7 +3,7 @@ ghost use mathlib.Core.Path.{_≡_};
 ghost use Rattle.script.specs.Lines.{before, after, trimmed};
 
 // The bytes before the first separator, and those after it.
-pub fn split_once(bytes: &[u8], separator: u8) -> (&[u8], &[u8])
+pub(crate) fn split_once(bytes: &[u8], separator: u8) -> (&[u8], &[u8])
     ensures before_the_first { λ r. ⌜ now (r .0) ≡ before separator (now (bytes .entry)) ⌝ }
     ensures after_the_first { λ r. ⌜ now (r .1) ≡ after separator (now (bytes .entry)) ⌝ }
 {
@@ -16,7 +16,7 @@ pub fn split_once(bytes: &[u8], separator: u8) -> (&[u8], &[u8])
 }
 
 // A line without the carriage return that may stand at its end.
-pub fn trim(line: &[u8]) -> &[u8]
+pub(crate) fn trim(line: &[u8]) -> &[u8]
     ensures without_carriage_return { λ r. ⌜ now r ≡ trimmed (now (line .entry)) ⌝ }
 {
     let end = line.len();

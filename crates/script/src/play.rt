@@ -19,8 +19,8 @@ use std::alloc::Global;
 // What was printed, and the account.
 #[derive(Drop)]
 pub struct Session {
-    output: Vec<u8>,
-    account: Account,
+    pub output: Vec<u8>,
+    pub account: Account,
 }
 
 // The answer to a line, if it says something.
@@ -31,20 +31,6 @@ fn reply_to(text: &[u8]) -> Option<Reply>
 }
 
 impl Session {
-    // What was printed.
-    pub fn output(&self) -> &[u8]
-        ensures output_as_kept { λ r. ⌜ now r ≡ vec-items (now (self .entry) .output) ⌝ }
-    {
-        self.output.as_slice()
-    }
-
-    // The account.
-    pub fn account(&self) -> &Account
-        ensures account_as_kept { λ r. ⌜ now r ≡ now (self .entry) .account ⌝ }
-    {
-        &self.account
-    }
-
     // A session in which nothing was said.
     fn new(heap: Global) -> Session
         ensures nothing_printed { λ r. ⌜ vec-items (r .output) ≡ [] ⌝ }
