@@ -4,10 +4,10 @@ use mathlib.Core.List.{List, [], _∷_}
 use Prim.Native.Nat.{ℕ, _+_, _*_, _/_, _%_, _<_, _≤_}
 use native.Mathlib.Omega.{arith}
 use borrow.Rule.Slice.PartMut.{putMid}
-use lib.ListN.{length, set}
-use Rattle.std.specs.shelf.Digits.{numberAfter, Under}
+use lib.ListN.{length, getD, take}
+use Rattle.std.specs.shelf.Digits.{number, numberAfter, Under}
 use Rattle.std.proofs.shelf.Elements.{all-getD}
-use Rattle.keyhash.proofs.Numbers.{Written, written-more, written-part, number-next}
+use Rattle.keyhash.proofs.Numbers.{Written, written-part, number-next}
 
 pub cut-group : (n k m w a b c : ℕ) (part out : List ℕ) → n + 4 ≡ k → k ≤ 32 → w ≡ 4 → a < 256 → b < 256 → c < 256
     → part ≡ a / 4 ∷ (a % 4 * 16 + b / 16) ∷ (b % 16 * 4 + c / 64) ∷ c % 64 ∷ []
@@ -24,19 +24,18 @@ cut-last n m out e (size-is, under, is) =
     let last = number-next 64 out 27 28 (omega arith) refl refl in
     (size-is, under, omega arith)
 
-pub join-group : (i m s t u v : ℕ) (out : List ℕ) → i < 6 → s < 64 → t < 64 → u < 64 → v < 64 → Written 256 20 (3 * i) m out
-    → Written 256 20 (3 * (i + 1)) ((((m * 64 + s) * 64 + t) * 64 + u) * 64 + v)
-    (set (set (set out (3 * i) (s * 4 + t / 16)) (3 * i + 1) (t % 16 * 16 + u / 4)) (3 * i + 2) (u % 4 * 64 + v))
-join-group i m s t u v out l ls lt lu lv w =
-    let w1 = written-more 256 20 (3 * i) (3 * i + 1) m (s * 4 + t / 16) out (omega arith) refl (omega arith) w in
-    let w2 = written-more 256 20 (3 * i + 1) (3 * i + 2) _ (t % 16 * 16 + u / 4) _ (omega arith) (omega arith) (omega arith) w1 in
-    let w3 = written-more 256 20 (3 * i + 2) (3 * (i + 1)) _ (u % 4 * 64 + v) _ (omega arith) (omega arith) (omega arith) w2 in
-    (w3 .0, w3 .1, w3 .2 ∙ omega arith)
+pub join-group : (n k m w s t u v : ℕ) (part out : List ℕ) → n + 3 ≡ k → k ≤ 21 → w ≡ 3 → s < 64 → t < 64 → u < 64 → v < 64
+    → part ≡ (s * 4 + t / 16) ∷ (t % 16 * 16 + u / 4) ∷ (u % 4 * 64 + v) ∷ []
+    → Written 256 21 n m out → Written 256 21 k ((((m * 64 + s) * 64 + t) * 64 + u) * 64 + v) (putMid n w out part)
+join-group n k m w s t u v part out ends inside three ls lt lu lv is written =
+    let under : Under 256 ((s * 4 + t / 16) ∷ (t % 16 * 16 + u / 4) ∷ (u % 4 * 64 + v) ∷ []) = (omega arith, (omega arith, (omega arith, tt))) in
+    let more = written-part 256 21 n k m w part out (omega arith) inside (ap length is ∙ sym three) (subst (Under 256) (sym is) under) written in
+    (more .0, more .1, more .2 ∙ ap (numberAfter 256 m) is ∙ omega arith)
 
--- the last three digits, less two bits
-pub join-last : (m s t u : ℕ) (out : List ℕ) → s < 64 → t < 64 → u < 64 → Written 256 20 18 m out
-    → Written 256 20 20 ((((m * 64 + s) * 64 + t) * 64 + u) / 4) (set (set out 18 (s * 4 + t / 16)) 19 (t % 16 * 16 + u / 4))
-join-last m s t u out ls lt lu w =
-    let w1 = written-more 256 20 18 19 m (s * 4 + t / 16) out (omega arith) refl (omega arith) w in
-    let w2 = written-more 256 20 19 20 _ (t % 16 * 16 + u / 4) _ (omega arith) refl (omega arith) w1 in
-    (w2 .0, w2 .1, w2 .2 ∙ omega arith)
+-- without the last of 21 bytes, and of 28 digits
+pub join-last : (digits out : List ℕ) → 28 ≤ length digits → getD digits 27 0 < 64 → Written 256 21 21 (number 64 (take 28 digits)) out → Written 256 21 20 (number 64 (take 27 digits) / 4) out
+join-last digits out long small (size-is, under, is) =
+    let byte = all-getD (λ d. d < 256) out 20 0 (omega arith) under in
+    let last = number-next 256 out 20 21 (omega arith) refl refl in
+    let digit = number-next 64 digits 27 28 (omega arith) refl refl in
+    (size-is, under, omega arith)

@@ -1,15 +1,17 @@
 -- The 28 characters of a hash, and the hash that 28 characters spell.
 use mathlib.Core.Path.{_≡_, refl, sym, ap, _∙_, subst}
+use mathlib.Core.Bool.{true, _&&_}
 use mathlib.Core.List.{List, [], _∷_, _++_, map}
 use Prim.Native.Nat.{ℕ, _+_, _*_, _/_, _%_, _^_, _<_, _≤_}
 use native.Mathlib.Omega.{arith}
 use borrow.Author.Needs.{needs}
+use lib.Dec.{eqb}
 use lib.ListN.{length, getD, set, take}
 use Rattle.std.specs.shelf.Digits.{number, Under}
 use Rattle.std.proofs.shelf.Digits.{number-lt}
 use Rattle.std.proofs.shelf.Elements.{all-getD, all-from-getD, all-take, all-append}
 use Rattle.std.proofs.shelf.Lists.{map-append, length-map, length-push, length-append, length-take-le, take-at, take-all, take-more, take-more-set, getD-at, getD-map, getD-take, getD-append-left, append-assoc, append-nil}
-use Rattle.std.proofs.shelf.Ways.{tells}
+use Rattle.std.proofs.shelf.Ways.{tells, decides-and, decides-eqb}
 use Rattle.std.specs.declared.result.Result.the-variants.{Ok, Err}
 use Rattle.refusal.specs.declared.Refusal.the-variants.{Malformed}
 use Rattle.keyhash.specs.Canonical.{KeyHash, Canonical}
@@ -165,6 +167,13 @@ module _ (chars ds : List ℕ) (len : length chars ≡ 28) (are : ds ≡ map dig
 
   pub last-of-readable : Readable chars → getD ds 26 0 % 4 ≡ 0
   last-of-readable good = ap (λ d. d % 4) last ∙ good .no-stray
+
+-- the test of the last digit and of what stands behind it
+pub ends-from-test : (digit behind : ℕ) → (eqb (digit % 4) 0 && eqb behind 61) ≡ true → (digit % 4 ≡ 0) × (behind ≡ 61)
+ends-from-test digit behind t = decides-and (eqb (digit % 4) 0) (eqb behind 61) (decides-eqb (digit % 4) 0) (decides-eqb behind 61) .0 t
+
+pub test-from-ends : (digit behind : ℕ) → digit % 4 ≡ 0 → behind ≡ 61 → (eqb (digit % 4) 0 && eqb behind 61) ≡ true
+test-from-ends digit behind e f = decides-and (eqb (digit % 4) 0) (eqb behind 61) (decides-eqb (digit % 4) 0) (decides-eqb behind 61) .1 (e, f)
 
 -- reading answers the hash that the characters spell where they are readable, and refuses all others
 pub reading-readable : (chars : List ℕ) → length chars ≡ 28 → Readable chars → reading chars ≡ Ok (spelled chars)

@@ -9,11 +9,17 @@ use Rattle.keyhash.specs.Base64.{text, spelled}
 use Rattle.keyhash.specs.Canonical.{readBy}
 
 -- what stands before and after the 28 characters: 64 and 27 bytes
+abbrev pub openingText : List ℕ
+openingText = codes "&lt;hash&gt;&lt;algorithm&gt;SHA1&lt;/algorithm&gt;&lt;value&gt;"
+
+abbrev pub closingText : List ℕ
+closingText = codes "&lt;/value&gt;&lt;/hash&gt;"
+
 unfoldable pub opening : List ℕ
-opening = codes "&lt;hash&gt;&lt;algorithm&gt;SHA1&lt;/algorithm&gt;&lt;value&gt;"
+opening = openingText
 
 unfoldable pub closing : List ℕ
-closing = codes "&lt;/value&gt;&lt;/hash&gt;"
+closing = closingText
 
 -- the element of a hash
 unfoldable pub element : List ℕ → List ℕ

@@ -1,7 +1,9 @@
 // The value of a key hash: 20 bytes as 28 characters of Base64 (RFC 4648).
 ghost use mathlib.Core.Path.{_≡_};
+ghost use mathlib.Core.Bool.{_&&_};
 ghost use mathlib.Core.List.{List, [], _∷_, _++_, map};
 ghost use Prim.Native.Nat.{ℕ, _+_, _-_, _*_, _/_, _%_, _<_, _≤_};
+ghost use lib.Dec.{eqb};
 ghost use lib.ListN.{length, getD, take};
 ghost use Rattle.std.specs.shelf.Digits.{number};
 ghost use Rattle.std.specs.declared.result.Result.the-variants.{Ok, Err};
@@ -9,7 +11,7 @@ ghost use Rattle.std.specs.Orderings.{Decides};
 ghost use Rattle.refusal.specs.declared.Refusal.the-variants.{Malformed};
 ghost use Rattle.keyhash.specs.Numeral.{numeral};
 ghost use Rattle.keyhash.specs.Canonical.{Canonical};
-ghost use Rattle.keyhash.specs.Base64.{character, digitOf, padding, Alphabet-of-RFC-4648, bitString, text, reading, StrayBits};
+ghost use Rattle.keyhash.specs.Base64.{character, digitOf, padding as zeros, Alphabet-of-RFC-4648, bitString, text, reading, StrayBits};
 use refusal::Refusal;
 
 // The character that stands for six bits.
@@ -58,18 +60,26 @@ fn four_digits(a: u8, b: u8, c: u8) -> [u8; 4]
     (first + second * 0x100 + third * 0x1_0000 + fourth * 0x100_0000).to_le_bytes()
 }
 
+// The three bytes that four digits of six bits hold.
+fn three_bytes(s: u8, t: u8, u: u8, v: u8) -> [u8; 3]
+    requires { ⌜ (s < 64) × (t < 64) × (u < 64) × (v < 64) ⌝ }
+    ensures { λ r. ⌜ r ≡ (s * 4 + t / 16) ∷ (t % 16 * 16 + u / 4) ∷ (u % 4 * 64 + v) ∷ [] ⌝ }
+{
+    [s * 4 + t / 16, t % 16 * 16 + u / 4, u % 4 * 64 + v]
+}
+
 // The hash's 160 bits and two zero bits, cut into 27 digits of six bits.
 fn cut(hash: [u8; 20]) -> [u8; 32]
     ensures digits { λ r. ⌜ take 27 r ≡ numeral 64 27 (bitString hash) ⌝ }
     ensures six_bits { λ r. ⌜ ((k : ℕ) → k < 32 → getD r k 0 < 64) ⌝ }
 {
+    let mut bytes = [0; 21];
+    bytes[0..20].copy_from_slice(&hash);
     let mut out = [0; PLACES];
-    for i in 0..6 {
-        let group = four_digits(hash[3 * i], hash[3 * i + 1], hash[3 * i + 2]);
+    for i in 0..7 {
+        let group = four_digits(bytes[3 * i], bytes[3 * i + 1], bytes[3 * i + 2]);
         out[4 * i..4 * i + 4].copy_from_slice(&group);
     }
-    let group = four_digits(hash[18], hash[19], 0);
-    out[24..28].copy_from_slice(&group);
     out
 }
 
@@ -78,18 +88,18 @@ fn join(digits: [u8; 32]) -> [u8; 20]
     requires { ⌜ ((k : ℕ) → k < 32 → getD digits k 0 < 64) ⌝ }
     ensures { λ r. ⌜ r ≡ numeral 256 20 (number 64 (take 27 digits) / 4) ⌝ }
 {
-    let mut hash = [0; 20];
-    for i in 0..6 {
-        let s = digits[4 * i];
-        let t = digits[4 * i + 1];
-        let u = digits[4 * i + 2];
-        let v = digits[4 * i + 3];
-        hash[3 * i] = s * 4 + t / 16;
-        hash[3 * i + 1] = t % 16 * 16 + u / 4;
-        hash[3 * i + 2] = u % 4 * 64 + v;
+    let mut out = [0; 21];
+    for i in 0..7 {
+        let group = three_bytes(
+            digits[4 * i],
+            digits[4 * i + 1],
+            digits[4 * i + 2],
+            digits[4 * i + 3],
+        );
+        out[3 * i..3 * i + 3].copy_from_slice(&group);
     }
-    hash[18] = digits[24] * 4 + digits[25] / 16;
-    hash[19] = digits[25] % 16 * 16 + digits[26] / 4;
+    let mut hash = [0; 20];
+    hash.copy_from_slice(&out[0..20]);
     hash
 }
 
@@ -118,7 +128,7 @@ fn digits_of(chars: [u8; 32]) -> [u8; 32]
 
 // The first 27 characters, and five that stand for 0.
 fn padded(chars: [u8; 28]) -> [u8; 32]
-    ensures { λ r. ⌜ r ≡ take 27 chars ++ padding ⌝ }
+    ensures { λ r. ⌜ r ≡ take 27 chars ++ zeros ⌝ }
 {
     let mut out = [b'A'; PLACES];
     out[0..27].copy_from_slice(&chars[0..27]);
@@ -134,6 +144,13 @@ fn all_of_six_bits(digits: [u8; 32]) -> bool
         all = all & (digits[i] < NO_DIGIT);
     }
     all
+}
+
+// Whether the last digit has no stray bits, and '=' stands behind it.
+fn ends_canonically(digit: u8, padding: u8) -> bool
+    ensures { λ r. ⌜ r ≡ (eqb (digit % 4) 0 && eqb padding 61) ⌝ }
+{
+    digit % 4 == 0 && padding == b'='
 }
 
 // The canonical text of a hash.
@@ -155,7 +172,7 @@ pub fn decode(chars: [u8; 28]) -> Result<[u8; 20], Refusal>
     ensures stray_bits_are_refused { λ r. ⌜ (StrayBits chars → r ≡ Err Malformed) ⌝ }
 {
     let digits = digits_of(padded(chars));
-    if chars[27] != b'=' || !all_of_six_bits(digits) || digits[26] % 4 != 0 {
+    if !all_of_six_bits(digits) || !ends_canonically(digits[26], chars[27]) {
         return Err(Refusal::Malformed);
     }
     Ok(join(digits))

@@ -8,7 +8,7 @@ ghost use Rattle.std.specs.Orderings.{Decides};
 ghost use Rattle.refusal.specs.declared.Refusal.the-variants.{Malformed};
 ghost use Rattle.keyhash.specs.Canonical.{Canonical};
 ghost use Rattle.keyhash.specs.Base64.{StrayBits};
-ghost use Rattle.keyhash.specs.Element.{element, readingElement};
+ghost use Rattle.keyhash.specs.Element.{openingText, closingText, element, readingElement};
 use crate::base64;
 use refusal::Refusal;
 
@@ -16,6 +16,18 @@ use refusal::Refusal;
 pub const OPENING: &[u8] = b"&lt;hash&gt;&lt;algorithm&gt;SHA1&lt;/algorithm&gt;&lt;value&gt;";
 
 pub const CLOSING: &[u8] = b"&lt;/value&gt;&lt;/hash&gt;";
+
+fn opening_bytes() -> &'static [u8]
+    ensures { λ r. ⌜ now r ≡ openingText ⌝ }
+{
+    OPENING
+}
+
+fn closing_bytes() -> &'static [u8]
+    ensures { λ r. ⌜ now r ≡ closingText ⌝ }
+{
+    CLOSING
+}
 
 // Where the value begins and ends, and the length of the whole.
 const VALUE: usize = 64;
@@ -41,9 +53,9 @@ pub fn write(hash: [u8; 20]) -> [u8; 119]
     ensures reads_back { λ r. ⌜ readingElement r ≡ Ok hash ⌝ }
 {
     let mut out = [0; LENGTH];
-    let value = put(&mut out, 0, OPENING);
+    let value = put(&mut out, 0, opening_bytes());
     let closing = put(&mut out, value, &base64::encode(hash));
-    put(&mut out, closing, CLOSING);
+    put(&mut out, closing, closing_bytes());
     out
 }
 
@@ -68,7 +80,9 @@ pub fn read(bytes: &[u8]) -> Result<[u8; 20], Refusal>
     if bytes.len() != LENGTH {
         return Err(Refusal::Malformed);
     }
-    if !same(&bytes[0..VALUE], OPENING) || !same(&bytes[VALUE_END..LENGTH], CLOSING) {
+    if !same(&bytes[0..VALUE], opening_bytes())
+        || !same(&bytes[VALUE_END..LENGTH], closing_bytes())
+    {
         return Err(Refusal::Malformed);
     }
     let mut chars = [0; 28];

@@ -34,10 +34,13 @@ noted t (Mistaken mistake) = record { hashes = t .hashes; malformed = t .malform
 abbrev pub tally : Account → Tally
 tally a = record { hashes = vec-items (a .hashes); malformed = a .malformed; written = a .written; mistakes = a .mistakes }
 
--- the counts as lines of commentary
+-- counts as lines of commentary
+abbrev pub countText : ℕ → ℕ → ℕ → ℕ → List ℕ
+countText read malformed written mistakes =
+    codes "# texts read as a hash: " ++ (decimal read
+    ++ (codes "\n# texts malformed: " ++ (decimal malformed
+    ++ (codes "\n# texts written: " ++ (decimal written
+    ++ (codes "\n# lines in error: " ++ (decimal mistakes ++ codes "\n")))))))
+
 abbrev pub countLines : Tally → List ℕ
-countLines t =
-    codes "# texts read as a hash: " ++ (decimal (length (t .hashes))
-    ++ (codes "\n# texts malformed: " ++ (decimal (t .malformed)
-    ++ (codes "\n# texts written: " ++ (decimal (t .written)
-    ++ (codes "\n# lines in error: " ++ (decimal (t .mistakes) ++ codes "\n")))))))
+countLines t = countText (length (t .hashes)) (t .malformed) (t .written) (t .mistakes)

@@ -8,7 +8,7 @@ ghost use Rattle.std.specs.Of.String.{string-bytes};
 ghost use Rattle.std.specs.Of.Vec.{vec-items, vec-len};
 ghost use Rattle.std.specs.Results.{isOk};
 ghost use Rattle.std.specs.Vec.{made};
-ghost use Rattle.script.specs.Accounts.{empty, noted, tally, countLines};
+ghost use Rattle.script.specs.Accounts.{empty, noted, tally, countText, countLines};
 ghost use Rattle.script.specs.Repeats.{Lists-each-repeated-hash-once, repeats};
 use crate::reply::Reply;
 use std::alloc::AllocError;
@@ -45,6 +45,31 @@ fn repeats_in(heap: Global, sorted: &[[u8; 20]]) -> Result<Vec<[u8; 20]>, AllocE
         }
     }
     Ok(out)
+}
+
+// The hashes that are more than once among some.
+fn repeats_among(heap: Global, hashes: &[[u8; 20]]) -> Result<Vec<[u8; 20]>, AllocError>
+    ensures { λ r. ⌜ made r (λ v. Lists-each-repeated-hash-once (now (hashes .entry)) (vec-items v)) ⌝ }
+{
+    let mut sorted = Vec::from_slice(heap, hashes)?;
+    sorted.sort();
+    repeats_in(heap, sorted.as_slice())
+}
+
+// Counts as lines of commentary.
+fn count_lines(
+    heap: Global,
+    read: usize,
+    malformed: u64,
+    written: u64,
+    mistakes: u64,
+) -> Result<String, AllocError>
+    ensures { λ r. ⌜ made r (λ s. string-bytes s ≡ countText read malformed written mistakes) ⌝ }
+{
+    format!(
+        heap,
+        "# texts read as a hash: {read}\n# texts malformed: {malformed}\n# texts written: {written}\n# lines in error: {mistakes}\n"
+    )
 }
 
 impl Account {
@@ -84,13 +109,12 @@ impl Account {
     pub fn counts(&self, heap: Global) -> Result<String, AllocError>
         ensures counts_as_defined { λ r. ⌜ made r (λ s. string-bytes s ≡ countLines (tally (now (self .entry)))) ⌝ }
     {
-        let read = self.hashes.len();
-        let malformed = self.malformed;
-        let written = self.written;
-        let mistakes = self.mistakes;
-        format!(
+        count_lines(
             heap,
-            "# texts read as a hash: {read}\n# texts malformed: {malformed}\n# texts written: {written}\n# lines in error: {mistakes}\n"
+            self.hashes.len(),
+            self.malformed,
+            self.written,
+            self.mistakes,
         )
     }
 
@@ -98,8 +122,6 @@ impl Account {
     pub fn repeated(&self, heap: Global) -> Result<Vec<[u8; 20]>, AllocError>
         ensures lists_each_repeated_hash_once { λ r. ⌜ made r (λ v. Lists-each-repeated-hash-once (tally (now (self .entry)) .hashes) (vec-items v)) ⌝ }
     {
-        let mut sorted = Vec::from_slice(heap, self.hashes.as_slice())?;
-        sorted.sort();
-        repeats_in(heap, sorted.as_slice())
+        repeats_among(heap, self.hashes.as_slice())
     }
 }

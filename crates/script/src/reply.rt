@@ -36,7 +36,7 @@ pub enum Reply {
 
 impl Mistake {
     // The reason that is given.
-    pub fn reason(self) -> &'static [u8]
+    fn reason(self) -> &'static [u8]
         ensures reason_as_defined { λ r. ⌜ now r ≡ reason self ⌝ }
     {
         match self {

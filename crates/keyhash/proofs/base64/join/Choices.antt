@@ -5,4 +5,4 @@ use Rattle.keyhash.proofs.Numbers.{Written}
 use Rattle.keyhash.proofs.base64.join.Given as given
 
 abbrev pub Inv-loop-i : given.InvT-loop-i
-Inv-loop-i l = Written 256 20 (3 * l .i) (number 64 (take (4 * l .i) (l .digits))) (l .hash)
+Inv-loop-i l = Written 256 21 (3 * l .i) (number 64 (take (4 * l .i) (l .digits))) (l .out)

@@ -29,10 +29,10 @@ returns-then-not-same c =
     elim (c .then-not-same .came) [
       | then-not-same·by·then-not-same w ↦
           refuses-opening (c .args .bytes .now)
-          (λ e. let no-way : true ≡ false = sym (c .same .ensures .1 e) ∙ w .if-not-same .taken in let z : _≡_ {A = ℕ} 0 1 = cc in omega arith)
+          (λ e. let no-way : true ≡ false = sym (c .same .ensures .1 (e ∙ sym (c .opening-bytes .ensures))) ∙ w .if-not-same .taken in let z : _≡_ {A = ℕ} 0 1 = cc in omega arith)
       | then-not-same·by·else-not-same·then-not-same-2 w ↦
           refuses-closing (c .args .bytes .now)
-          (λ e. let no-way : true ≡ false = sym (w .same-else-not-same .ensures .1 (rest (c .args .bytes .now) (c .if-bytes-ne-LENGTH .left) ∙ e)) ∙ w .if-not-same-2 .taken in
+          (λ e. let no-way : true ≡ false = sym (w .same-else-not-same .ensures .1 (rest (c .args .bytes .now) (c .if-bytes-ne-LENGTH .left) ∙ e ∙ sym (w .closing-bytes .ensures))) ∙ w .if-not-same-2 .taken in
           let z : _≡_ {A = ℕ} 0 1 = cc in omega arith)
     ] in
     record { as-defined = sym bad; reader-and-writer-are-inverse = element-canonical; stray-bits-are-refused = λ _. refl }
@@ -42,8 +42,8 @@ unfolding opening closing
 returns c =
     let bytes = c .args .bytes .now in
     let long : length (c .args .bytes .now) ≡ 119 = c .if-bytes-ne-LENGTH .left in
-    let front : take 64 (c .args .bytes .now) ≡ opening = c .same .ensures .0 (c .if-not-same .left) in
-    let end : drop 92 (c .args .bytes .now) ≡ closing = sym (rest (c .args .bytes .now) long) ∙ c .same-else-not-same .ensures .0 (c .if-not-same-2 .left) in
+    let front : take 64 (c .args .bytes .now) ≡ opening = c .same .ensures .0 (c .if-not-same .left) ∙ c .opening-bytes .ensures in
+    let end : drop 92 (c .args .bytes .now) ≡ closing = sym (rest (c .args .bytes .now) long) ∙ c .same-else-not-same .ensures .0 (c .if-not-same-2 .left) ∙ c .closing-bytes .ensures in
     let inner : take 28 (drop 64 (c .args .bytes .now)) ≡ c .copy-from-slice .last .self = sym (c .copy-from-slice .ensures .after) in
     let is : c .args .bytes .now ≡ opening ++ (c .copy-from-slice .last .self ++ closing) = in-three (c .args .bytes .now) opening (c .copy-from-slice .last .self) closing front inner end in
     let answer : c .decode .result ≡ readingElement (c .args .bytes .now) = c .decode .ensures .as-defined ∙ sym (reads-inner (c .args .bytes .now) (c .copy-from-slice .last .self) (c .copy-from-slice .ensures .len) is) in
