@@ -60,12 +60,18 @@ fn four_digits(a: u8, b: u8, c: u8) -> [u8; 4]
     (first + second * 0x100 + third * 0x1_0000 + fourth * 0x100_0000).to_le_bytes()
 }
 
-// The three bytes that four digits of six bits hold.
+// The three bytes that four digits of six bits hold, by one word that is read at once.
 fn three_bytes(s: u8, t: u8, u: u8, v: u8) -> [u8; 3]
     requires { ⌜ (s < 64) × (t < 64) × (u < 64) × (v < 64) ⌝ }
     ensures { λ r. ⌜ r ≡ (s * 4 + t / 16) ∷ (t % 16 * 16 + u / 4) ∷ (u % 4 * 64 + v) ∷ [] ⌝ }
 {
-    [s * 4 + t / 16, t % 16 * 16 + u / 4, u % 4 * 64 + v]
+    let word = u32::from_le_bytes([s, t, u, v]);
+    let first = word % 64;
+    let second = word / 0x100 % 64;
+    let third = word / 0x1_0000 % 64;
+    let fourth = word / 0x100_0000 % 64;
+    let [_, a, b, c] = (first * 0x4_0000 + second * 0x1000 + third * 64 + fourth).to_be_bytes();
+    [a, b, c]
 }
 
 // The hash's 160 bits and two zero bits, cut into 27 digits of six bits.

@@ -1,0 +1,31 @@
+// Examples of whole inputs, with mistakes, and of what is answered. The texts come from GNU coreutils' Base64 encoder.
+#[cfg(test)]
+mod tests {
+    use script::play::play;
+    use std::test::*;
+
+    const INPUT: &[u8] =
+        b"hash &lt;hash&gt;&lt;algorithm&gt;SHA1&lt;/algorithm&gt;&lt;value&gt;qZk+NkcGgWq6PiVxeFDCbJzQ2J0=&lt;/value&gt;&lt;/hash&gt;\n# a comment\n\n  \t\nhash\ntext A9993E364706816ABA3E25717850C26C9CD0D89D\r\ntext a9993e364706816aba3e25717850c26c9cd0d89\ntext a9993e364706816aba3e25717850c26c9cd0d89g\nHASH &lt;hash&gt;&lt;algorithm&gt;SHA1&lt;/algorithm&gt;&lt;value&gt;qZk+NkcGgWq6PiVxeFDCbJzQ2J0=&lt;/value&gt;&lt;/hash&gt;\nhash  &lt;hash&gt;&lt;algorithm&gt;SHA1&lt;/algorithm&gt;&lt;value&gt;qZk+NkcGgWq6PiVxeFDCbJzQ2J0=&lt;/value&gt;&lt;/hash&gt;\nhash &lt;hash&gt;&lt;algorithm&gt;SHA1&lt;/algorithm&gt;&lt;value&gt;qZk+NkcGgWq6PiVxeFDCbJzQ2J0=&lt;/value&gt;&lt;/hash&gt;";
+
+    const OUTPUT: &[u8] =
+        b"hash a9993e364706816aba3e25717850c26c9cd0d89d\nerror 5: no text, expected: hash TEXT\ntext &lt;hash&gt;&lt;algorithm&gt;SHA1&lt;/algorithm&gt;&lt;value&gt;qZk+NkcGgWq6PiVxeFDCbJzQ2J0=&lt;/value&gt;&lt;/hash&gt;\nerror 7: not 40 hexadecimal digits, expected: text HEX\nerror 8: not 40 hexadecimal digits, expected: text HEX\nerror 9: unknown statement, expected: hash TEXT or text HEX\nmalformed\nhash a9993e364706816aba3e25717850c26c9cd0d89d\n";
+
+    const COUNTS: &str =
+        "# texts read as a hash: 2\n# texts malformed: 1\n# texts written: 1\n# lines in error: 4\n";
+
+    #[test]
+    fn answers_each_line_and_goes_on(rt: LibcRuntime) -> Result<(), Fail> {
+        let session = play(rt.alloc(), INPUT)?;
+        check(session.output.as_slice() == OUTPUT)?;
+        check(session.account.has_mistakes())?;
+        check(session.account.counts(rt.alloc())?.as_str() == COUNTS)?;
+        check_eq(session.account.repeated(rt.alloc())?.len(), 1)
+    }
+
+    #[test]
+    fn an_empty_input_has_no_answers(rt: LibcRuntime) -> Result<(), Fail> {
+        let session = play(rt.alloc(), b"")?;
+        check_eq(session.output.len(), 0)?;
+        check(!session.account.has_mistakes())
+    }
+}
