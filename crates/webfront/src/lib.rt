@@ -1,6 +1,6 @@
 // Entries for a web front in C. A slice passes as a pointer and a length.
 ghost use mathlib.Core.Path.{_≡_};
-ghost use Rattle.webfront.specs.Entries.{hashRead, hashWritten, answer, output};
+ghost use Rattle.webfront.specs.Entries.{hashRead, hashWritten, coverTold, answer, output};
 use keyhash::element;
 use refusal::Refusal;
 
@@ -35,4 +35,26 @@ pub extern "C" fn hub_hash_write(hash: &[u8], text: &mut [u8]) -> u32
     value.copy_from_slice(hash);
     text.copy_from_slice(&element::write(value));
     0
+}
+
+// Writes 1 into `covered` where the permission term covers the name, and 0 where it does not. Answers 0, or 402 where the term or the name is malformed or `covered` is not one byte.
+#[unsafe(no_mangle)]
+pub extern "C" fn hub_term_covers(term: &[u8], name: &[u8], covered: &mut [u8]) -> u32
+    ensures answer_as_defined { λ r. ⌜ r ≡ answer (coverTold (now (term .entry)) (now (name .entry)) (now (covered .entry))) ⌝ }
+    ensures output_is_result_or_untouched { λ _. ⌜ now (covered .exit) ≡ output (coverTold (now (term .entry)) (now (name .entry)) (now (covered .entry))) (now (covered .entry)) ⌝ }
+{
+    if covered.len() != 1 {
+        return u32::from(Refusal::Malformed.code());
+    }
+    match permission::covers(term, name) {
+        Ok(true) => {
+            covered.copy_from_slice(&[1]);
+            0
+        }
+        Ok(false) => {
+            covered.copy_from_slice(&[0]);
+            0
+        }
+        Err(refusal) => u32::from(refusal.code()),
+    }
 }

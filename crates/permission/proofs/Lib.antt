@@ -1,0 +1,11 @@
+pub mod Fronts
+pub mod Found
+pub mod Texts
+pub mod Walks
+pub mod Verdicts
+pub mod Names
+pub mod Covered
+pub mod Decoding
+pub mod Encoding
+pub mod Unique
+pub mod Laws
