@@ -1,4 +1,4 @@
-/* A web front's calls: it writes and reads the text of a key hash, and shows what is refused. */
+/* A web front's calls: it writes and reads the text of a key hash, asks permission terms, and shows what is refused. */
 #include "hub_webfront.h"
 
 #include <stdio.h>
@@ -39,6 +39,18 @@ int main(void) {
     expect("a short output is refused", hub_hash_read(text, HUB_HASH_TEXT_LENGTH, back, sizeof back - 1) == HUB_MALFORMED);
     expect("a long output is refused", hub_hash_write(hash, sizeof hash, text, HUB_HASH_TEXT_LENGTH + 1) == HUB_MALFORMED);
     expect("a short hash is refused", hub_hash_write(hash, sizeof hash - 1, text, HUB_HASH_TEXT_LENGTH) == HUB_MALFORMED);
+
+    /* the names from B to D */
+    static const uint8_t range[] = {0x04, 0x01, 'B', 0x01, 'D'};
+    uint8_t covered[2] = {7, 7};
+    expect("a term is asked", hub_term_covers(range, sizeof range, (const uint8_t *)"CZ", 2, covered, 1) == HUB_OK);
+    expect("and covers the name", covered[0] == 1 && covered[1] == 7);
+    expect("or not", hub_term_covers(range, sizeof range, (const uint8_t *)"DA", 2, covered, 1) == HUB_OK && covered[0] == 0);
+    covered[0] = 7;
+    expect("a cut term is refused", hub_term_covers(range, 4, (const uint8_t *)"CZ", 2, covered, 1) == HUB_MALFORMED);
+    expect("a name of no bytes is refused", hub_term_covers(range, sizeof range, range, 0, covered, 1) == HUB_MALFORMED);
+    expect("a longer output is refused", hub_term_covers(range, sizeof range, range + 2, 1, covered, 2) == HUB_MALFORMED);
+    expect("and nothing written", covered[0] == 7 && covered[1] == 7);
     printf("%d failed\n", failures);
     return failures != 0;
 }

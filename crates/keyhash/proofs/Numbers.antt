@@ -39,7 +39,7 @@ numeral-more b n m =
 pub numeral-step : (b n m : ℕ) → numeral b (suc n) m ≡ numeral b n (m / b) ++ m % b ∷ []
 numeral-step b n m = ap (λ k. numeral b k m) (sym (add-one n)) ∙ numeral-more b n m
 
-numeral-none : (b m : ℕ) → numeral b zero m ≡ []
+pub numeral-none : (b m : ℕ) → numeral b zero m ≡ []
 unfolding numeral
 numeral-none b m = refl
 

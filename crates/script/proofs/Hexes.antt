@@ -26,27 +26,37 @@ Digits hex = (k : ℕ) → k < length hex → hexValue (getD hex k 0) < 16
 allHex-decides : (hex : List ℕ) → Decides (allHex hex) (All (λ c. hexValue c < 16) hex)
 allHex-decides = decides-by-and (λ c. ltb (hexValue c) 16) (λ c. hexValue c < 16) allHex (λ c. decides-ltb (hexValue c) 16) refl (λ _ _. refl)
 
-pub reads : (n : ℕ) (hex : List ℕ) → length hex ≡ 2 * n → Digits hex → hexBytes n hex ≡ Some (numeral 256 n (number 16 (map hexValue hex)))
+pub reads : (hex : List ℕ) → length hex % 2 ≡ 0 → Digits hex → hexBytes hex ≡ Some (numeral 256 (length hex / 2) (number 16 (map hexValue hex)))
 unfolding hexBytes
-reads n hex long digits =
-    let p : eqb (length hex) (2 * n) ≡ true = decides-eqb (length hex) (2 * n) .1 long in
+reads hex pairs digits =
+    let p : eqb (length hex % 2) 0 ≡ true = decides-eqb (length hex % 2) 0 .1 pairs in
     let q : allHex hex ≡ true = allHex-decides hex .1 (all-from-getD (λ c. hexValue c < 16) hex 0 digits) in
     simp (p, q)
 
-pub refuses-length : (n : ℕ) (hex : List ℕ) → (length hex ≡ 2 * n → ⊥) → hexBytes n hex ≡ None
+pub refuses-odd : (hex : List ℕ) → (length hex % 2 ≡ 0 → ⊥) → hexBytes hex ≡ None
 unfolding hexBytes
-refuses-length n hex no-length =
-    let p : eqb (length hex) (2 * n) ≡ false = grind (arith, tells) in
+refuses-odd hex odd =
+    let p : eqb (length hex % 2) 0 ≡ false = grind (arith, tells) in
     simp p
 
-pub refuses-other : (n : ℕ) (hex : List ℕ) → (Digits hex → ⊥) → hexBytes n hex ≡ None
+pub refuses-other : (hex : List ℕ) → (Digits hex → ⊥) → hexBytes hex ≡ None
 unfolding hexBytes
-refuses-other n hex no-digits = by (eqb (length hex) (2 * n)) (allHex hex) refl
+refuses-other hex no-digits = by (eqb (length hex % 2) 0) (allHex hex) refl
   where
-    by : (b d : Bool) → allHex hex ≡ d → cond (b && d) (Some (numeral 256 n (number 16 (map hexValue hex)))) None ≡ None
+    by : (b d : Bool) → allHex hex ≡ d → cond (b && d) (Some (numeral 256 (length hex / 2) (number 16 (map hexValue hex)))) None ≡ None
     by false d e = refl
     by true false e = refl
     by true true e = absurd (no-digits (λ k l. all-getD (λ c. hexValue c < 16) hex k 0 l (allHex-decides hex .0 e)))
+
+-- one byte more of the bytes that a number writes
+pub numeral-push : (n m b : ℕ) → b < 256 → numeral 256 n m ++ b ∷ [] ≡ numeral 256 (n + 1) (m * 256 + b)
+numeral-push n m b small =
+    let rest : (m * 256 + b) / 256 ≡ m = omega arith in
+    let last : (m * 256 + b) % 256 ≡ b = omega arith in
+    ap (λ x. numeral 256 n x ++ b ∷ []) (sym rest)
+    ∙ ap (λ x. numeral 256 n ((m * 256 + b) / 256) ++ x ∷ []) (sym last)
+    ∙ sym (numeral-step 256 n (m * 256 + b))
+    ∙ ap (λ k. numeral 256 k (m * 256 + b)) (sym (add-one n))
 
 -- the number of two digits more
 pub two-digits : (hex : List ℕ) (i : ℕ) → 2 * i + 1 < length hex
@@ -75,10 +85,6 @@ byte-more m b i l =
     ∙ ap (λ n. numeral 16 (2 * i) n ++ (x / 16 % 16 ∷ x % 16 ∷ [])) rest
     ∙ ap (λ d. numeral 16 (2 * i) m ++ (d ∷ x % 16 ∷ [])) high
     ∙ ap (λ d. numeral 16 (2 * i) m ++ (b / 16 ∷ d ∷ [])) low
-
-pub no-digits : (m : ℕ) → numeral 16 0 m ≡ []
-unfolding numeral
-no-digits m = refl
 
 -- a loop that adds the digits of bytes, one byte on
 pub text-more : (bytes : List ℕ) (i high low : ℕ) → i < length bytes → getD bytes i 0 < 256 → high ≡ hexCharacter (getD bytes i 0 / 16) → low ≡ hexCharacter (getD bytes i 0 % 16)

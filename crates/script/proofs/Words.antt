@@ -13,7 +13,7 @@ use Rattle.std.proofs.shelf.Equals.{sameBytes-decides}
 use Rattle.std.proofs.shelf.Lists.{append-assoc, append-nil, take-all, drop-all, take-more, at-drop-more, at-drop-all, nil-from-length}
 use Rattle.std.proofs.shelf.Ways.{tells, decides-eqb, not-from-decides}
 use Rattle.script.specs.Lines.{before, after, space, blank, comment, longer, linesOf, trimmed}
-use Rattle.script.specs.Statements.{Said, nothing, hash, text, unknown, says}
+use Rattle.script.specs.Statements.{Said, nothing, hash, text, covers, unknown, says}
 
 and-assoc : (a b c : Bool) → ((a && b) && c) ≡ (a && (b && c))
 and-assoc true b c = refl
@@ -56,20 +56,23 @@ module _ (sep : ℕ) (line : List ℕ) (i : ℕ) (l : i < length line) where
 -- what a line says that is not passed over, by its first word
 module _ (line : List ℕ) (p : blank line ≡ false) (q : comment line ≡ false) where
   pub says-hash : before 32 line ≡ codes "hash" → says line ≡ hash (after 32 line)
-  says-hash e = let t : sameBytes (before 32 line) (codes "hash") ≡ true = sameBytes-decides (before 32 line) (codes "hash") .1 e in simp (p, q, t)
+  says-hash e = simp (p, q, e)
 
   pub says-text : before 32 line ≡ codes "text" → says line ≡ text (after 32 line)
   says-text e = simp (p, q, e)
 
-  pub says-unknown : (before 32 line ≡ codes "hash" → ⊥) → (before 32 line ≡ codes "text" → ⊥) → says line ≡ unknown
-  says-unknown no-hash no-text =
-      let f : sameBytes (before 32 line) (codes "hash") ≡ false = by _ _ no-hash (sameBytes-decides (before 32 line) (codes "hash")) in
-      let g : sameBytes (before 32 line) (codes "text") ≡ false = by _ _ no-text (sameBytes-decides (before 32 line) (codes "text")) in
-      simp (p, q, f, g)
+  pub says-covers : before 32 line ≡ codes "covers" → says line ≡ covers (after 32 line)
+  says-covers e = simp (p, q, e)
+
+  other : (word : List ℕ) → (before 32 line ≡ word → ⊥) → sameBytes (before 32 line) word ≡ false
+  other word no-word = by _ (sameBytes-decides (before 32 line) word)
     where
-      by : (b : Bool) (P : Type 0) → (P → ⊥) → Decides b P → b ≡ false
-      by true P none decides = absurd (none (decides .0 refl))
-      by false P none decides = refl
+      by : (b : Bool) → Decides b (before 32 line ≡ word) → b ≡ false
+      by true decides = absurd (no-word (decides .0 refl))
+      by false decides = refl
+
+  pub says-unknown : (before 32 line ≡ codes "hash" → ⊥) → (before 32 line ≡ codes "text" → ⊥) → (before 32 line ≡ codes "covers" → ⊥) → says line ≡ unknown
+  says-unknown no-hash no-text no-covers = simp (p, q, other (codes "hash") no-hash, other (codes "text") no-text, other (codes "covers") no-covers)
 
 -- lines that do not end with a carriage return
 pub trimmed-empty : (line : List ℕ) → length line ≡ 0 → trimmed line ≡ line

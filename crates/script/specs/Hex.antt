@@ -1,12 +1,14 @@
 -- Bytes as hexadecimal digits, two for each byte.
 use mathlib.Core.Bool.{Bool, true, cond, _&&_}
 use mathlib.Core.List.{List, [], _∷_, map}
-use Prim.Native.Nat.{ℕ, _+_, _-_, _*_}
+use Prim.Native.Nat.{ℕ, _+_, _-_, _*_, _/_, _%_}
+use lib.Chars.{codes}
 use lib.Dec.{ltb, leb, eqb}
 use lib.ListN.{length}
 use Rattle.std.specs.declared.option.Option.{Option}
 use Rattle.std.specs.declared.option.Option.the-variants.{Some, None}
 use Rattle.std.specs.shelf.Digits.{number}
+use Rattle.std.specs.shelf.Text.{sameBytes}
 use Rattle.keyhash.specs.Numeral.{numeral}
 
 -- the digit of a number below 16: 0 to 9, then a to f
@@ -25,6 +27,10 @@ allHex (c ∷ cs) = ltb (hexValue c) 16 && allHex cs
 unfoldable pub hexText : List ℕ → List ℕ
 hexText bytes = map hexCharacter (numeral 16 (2 * length bytes) (number 256 bytes))
 
--- the n bytes that some digits write, if there are twice as many and each is a digit
-unfoldable pub hexBytes : ℕ → List ℕ → Option (List ℕ)
-hexBytes n hex = cond (eqb (length hex) (2 * n) && allHex hex) (Some (numeral 256 n (number 16 (map hexValue hex)))) None
+-- the bytes that some digits write, two for each, if they are so many and each is a digit
+unfoldable pub hexBytes : List ℕ → Option (List ℕ)
+hexBytes hex = cond (eqb (length hex % 2) 0 && allHex hex) (Some (numeral 256 (length hex / 2) (number 16 (map hexValue hex)))) None
+
+-- the bytes that a word names: digits, or '-' for no bytes
+abbrev pub bytesNamed : List ℕ → Option (List ℕ)
+bytesNamed word = cond (sameBytes word (codes "-")) (Some []) (hexBytes word)

@@ -1,20 +1,25 @@
 -- What is answered to a statement, and the line that says so.
+use mathlib.Core.Bool.{Bool, true, false, cond}
 use mathlib.Core.List.{List, [], _∷_, _++_}
 use Prim.Native.Nat.{ℕ}
 use lib.Chars.{codes}
+use lib.Dec.{eqb}
+use lib.ListN.{length}
 use Rattle.std.specs.declared.option.Option.{Option}
 use Rattle.std.specs.declared.option.Option.the-variants.{Some, None}
 use Rattle.std.specs.declared.result.Result.{Result}
 use Rattle.std.specs.declared.result.Result.the-variants.{Ok, Err}
 use Rattle.std.specs.Written.{decimal}
 use Rattle.refusal.specs.declared.Refusal.{Refusal}
+use Rattle.permission.specs.Reading.{covering}
 use Rattle.keyhash.specs.Element.{element, readingElement}
 use Rattle.script.specs.declared.reply.Mistake.{Mistake}
-use Rattle.script.specs.declared.reply.Mistake.the-variants.{UnknownStatement, NoText, NotFortyDigits}
+use Rattle.script.specs.declared.reply.Mistake.the-variants.{UnknownStatement, NoText, NotFortyDigits, NoTermAndName}
 use Rattle.script.specs.declared.reply.Reply.{Reply}
-use Rattle.script.specs.declared.reply.Reply.the-variants.{Hash, Malformed, Text, Mistaken}
-use Rattle.script.specs.Hex.{hexText, hexBytes}
-use Rattle.script.specs.Statements.{Said, nothing, hash, text, unknown}
+use Rattle.script.specs.declared.reply.Reply.the-variants.{Hash, Malformed, Text, Covers, Mistaken}
+use Rattle.script.specs.Hex.{hexText, hexBytes, bytesNamed}
+use Rattle.script.specs.Lines.{before, after}
+use Rattle.script.specs.Statements.{Said, nothing, hash, text, covers, unknown}
 
 abbrev pub readReply : Result (List ℕ) Refusal → Reply
 readReply (Ok value) = Hash value
@@ -26,28 +31,46 @@ hashReply (c ∷ cs) = readReply (readingElement (c ∷ cs))
 
 abbrev pub textReply : Option (List ℕ) → Reply
 textReply None = Mistaken NotFortyDigits
-textReply (Some value) = Text (element value)
+textReply (Some value) = cond (eqb (length value) 20) (Text (element value)) (Mistaken NotFortyDigits)
+
+-- the answer for a term, if there is one, and a name
+abbrev pub termReply : Option (List ℕ) → List ℕ → Reply
+termReply None name = Mistaken NoTermAndName
+termReply (Some term) name = Covers (covering term name)
+
+abbrev pub coversReply : List ℕ → List ℕ → Reply
+coversReply digits [] = Mistaken NoTermAndName
+coversReply digits (c ∷ cs) = termReply (bytesNamed digits) (c ∷ cs)
 
 -- the answer to what a line says, if it says something
 abbrev pub replyTo : Said → Option Reply
 replyTo nothing = None
 replyTo (hash bytes) = Some (hashReply bytes)
-replyTo (text hex) = Some (textReply (hexBytes 20 hex))
+replyTo (text hex) = Some (textReply (hexBytes hex))
+replyTo (covers argument) = Some (coversReply (before 32 argument) (after 32 argument))
 replyTo unknown = Some (Mistaken UnknownStatement)
 
 -- the reason that is given for a mistake
 abbrev pub reason : Mistake → List ℕ
-reason UnknownStatement = codes "unknown statement, expected: hash TEXT or text HEX"
+reason UnknownStatement = codes "unknown statement, expected: hash TEXT, text HEX or covers TERMHEX NAME"
 reason NoText = codes "no text, expected: hash TEXT"
 reason NotFortyDigits = codes "not 40 hexadecimal digits, expected: text HEX"
+reason NoTermAndName = codes "not hexadecimal digits and a name, expected: covers TERMHEX NAME"
 
 -- where a mistake stands
 abbrev pub place : ℕ → List ℕ
 place number = codes "error " ++ (decimal number ++ codes ": ")
+
+-- yes, no or malformed
+abbrev pub verdict : Result Bool Refusal → List ℕ
+verdict (Ok true) = codes "yes"
+verdict (Ok false) = codes "no"
+verdict (Err refusal) = codes "malformed"
 
 -- the line that is printed for an answer to the statement on a line
 abbrev pub printed : ℕ → Reply → List ℕ
 printed number (Hash value) = codes "hash " ++ hexText value
 printed number Malformed = codes "malformed"
 printed number (Text value) = codes "text " ++ value
+printed number (Covers answer) = verdict answer
 printed number (Mistaken mistake) = place number ++ reason mistake

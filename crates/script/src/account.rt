@@ -20,6 +20,7 @@ pub struct Account {
     hashes: Vec<[u8; 20]>,
     malformed: u64,
     written: u64,
+    judged: u64,
     mistakes: u64,
 }
 
@@ -62,13 +63,14 @@ fn count_lines(
     read: usize,
     malformed: u64,
     written: u64,
+    judged: u64,
     mistakes: u64,
 ) -> Result<String, AllocError>
-    ensures { λ r. ⌜ made r (λ s. string-bytes s ≡ countText read malformed written mistakes) ⌝ }
+    ensures { λ r. ⌜ made r (λ s. string-bytes s ≡ countText read malformed written judged mistakes) ⌝ }
 {
     format!(
         heap,
-        "# texts read as a hash: {read}\n# texts malformed: {malformed}\n# texts written: {written}\n# lines in error: {mistakes}\n"
+        "# texts read as a hash: {read}\n# texts malformed: {malformed}\n# texts written: {written}\n# terms judged: {judged}\n# lines in error: {mistakes}\n"
     )
 }
 
@@ -81,6 +83,7 @@ impl Account {
             hashes: Vec::new(heap),
             malformed: 0,
             written: 0,
+            judged: 0,
             mistakes: 0,
         }
     }
@@ -93,6 +96,7 @@ impl Account {
             Reply::Hash(hash) => self.hashes.push(*hash)?,
             Reply::Malformed => self.malformed = self.malformed.saturating_add(1),
             Reply::Text(_) => self.written = self.written.saturating_add(1),
+            Reply::Covers(_) => self.judged = self.judged.saturating_add(1),
             Reply::Mistaken(_) => self.mistakes = self.mistakes.saturating_add(1),
         }
         Ok(())
@@ -114,6 +118,7 @@ impl Account {
             self.hashes.len(),
             self.malformed,
             self.written,
+            self.judged,
             self.mistakes,
         )
     }

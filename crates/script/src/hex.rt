@@ -2,13 +2,16 @@
 ghost use mathlib.Core.Path.{_≡_};
 ghost use mathlib.Core.List.{List, [], _∷_, _++_};
 ghost use Prim.Native.Nat.{ℕ, _+_, _*_, _<_};
+ghost use lib.Chars.{codes};
 ghost use lib.ListN.{length, getD};
 ghost use Rattle.std.specs.Of.Vec.{vec-items, vec-len};
-ghost use Rattle.std.specs.Options.{isSome, valueOr};
+ghost use Rattle.std.specs.Options.{mapped};
 ghost use Rattle.std.specs.Orderings.{Decides};
 ghost use Rattle.std.specs.Vec.{made};
-ghost use Rattle.script.specs.Hex.{hexCharacter, hexValue, hexText, hexBytes};
+ghost use Rattle.std.specs.shelf.Text.{sameBytes};
+ghost use Rattle.script.specs.Hex.{hexCharacter, hexValue, hexText, hexBytes, bytesNamed};
 use std::alloc::AllocError;
+use std::alloc::Global;
 
 // What a byte that is no digit is read as.
 const NO_DIGIT: u8 = 16;
@@ -47,19 +50,34 @@ fn all_digits(hex: &[u8]) -> bool
     all
 }
 
-// Reads digits into `out`, two for each byte of it. Where they are not so many, or one is no digit, `out` is left as it was.
-pub fn decode(hex: &[u8], out: &mut [u8]) -> bool
-    ensures reads_exactly_such_digits { λ r. ⌜ r ≡ isSome (hexBytes (length (now (out .entry))) (now (hex .entry))) ⌝ }
-    ensures output_is_bytes_or_untouched { λ _. ⌜ now (out .exit) ≡ valueOr (hexBytes (length (now (out .entry))) (now (hex .entry))) (now (out .entry)) ⌝ }
+// The bytes that digits write, two for each, if they are so many and each is a digit.
+pub fn decode(heap: Global, hex: &[u8]) -> Result<Option<Vec<u8>>, AllocError>
+    ensures reads_exactly_pairs_of_digits { λ r. ⌜ made r (λ o. mapped vec-items o ≡ hexBytes (now (hex .entry))) ⌝ }
 {
-    let count = out.len();
-    if hex.len() / 2 != count || hex.len() % 2 != 0 || !all_digits(hex) {
-        return false;
+    if hex.len() % 2 != 0 || !all_digits(hex) {
+        return Ok(None);
     }
-    for i in 0..count {
-        out[i] = value_of(hex[2 * i]) * 16 + value_of(hex[2 * i + 1]);
+    let mut out = Vec::new(heap);
+    for i in 0..hex.len() / 2 {
+        out.push(value_of(hex[2 * i]) * 16 + value_of(hex[2 * i + 1]))?;
     }
-    true
+    Ok(Some(out))
+}
+
+// The bytes that a word names: digits, or '-' for no bytes.
+pub fn bytes_named(heap: Global, word: &[u8]) -> Result<Option<Vec<u8>>, AllocError>
+    ensures digits_or_a_dash { λ r. ⌜ made r (λ o. mapped vec-items o ≡ bytesNamed (now (word .entry))) ⌝ }
+{
+    if is_dash(word) {
+        return Ok(Some(Vec::new(heap)));
+    }
+    decode(heap, word)
+}
+
+fn is_dash(word: &[u8]) -> bool
+    ensures { λ r. ⌜ r ≡ sameBytes (now (word .entry)) (codes "-") ⌝ }
+{
+    word == b"-"
 }
 
 // Adds the digits of some bytes, in lower case.

@@ -24,10 +24,10 @@ pub struct Session {
 }
 
 // The answer to a line, if it says something.
-fn reply_to(text: &[u8]) -> Option<Reply>
-    ensures { λ r. ⌜ r ≡ replyToLine (now (text .entry)) ⌝ }
+fn reply_to(heap: Global, text: &[u8]) -> Result<Option<Reply>, AllocError>
+    ensures { λ r. ⌜ made r (λ o. o ≡ replyToLine (now (text .entry))) ⌝ }
 {
-    evaluate(parse(trim(text)))
+    evaluate(heap, parse(trim(text)))
 }
 
 impl Session {
@@ -47,7 +47,7 @@ impl Session {
         ensures printed { λ r. ⌜ made r (λ _. vec-items (now (self .exit) .output) ≡ vec-items (now (self .entry) .output) ++ shownReply number (replyToLine (now (text .entry)))) ⌝ }
         ensures noted { λ r. ⌜ made r (λ _. tally (now (self .exit) .account) ≡ notedReply (tally (now (self .entry) .account)) (replyToLine (now (text .entry)))) ⌝ }
     {
-        let Some(reply) = reply_to(text) else {
+        let Some(reply) = reply_to(heap, text)? else {
             return Ok(());
         };
         let mut shown = line(heap, number as u64, &reply)?;

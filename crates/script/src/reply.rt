@@ -5,11 +5,14 @@ ghost use lib.Chars.{codes};
 ghost use Rattle.std.specs.Of.Vec.{vec-items};
 ghost use Rattle.std.specs.Vec.{made};
 ghost use Rattle.script.specs.Hex.{hexText, hexBytes};
-ghost use Rattle.script.specs.Replies.{hashReply, textReply, replyTo, reason, place, printed};
+ghost use Rattle.script.specs.Replies.{hashReply, textReply, coversReply, replyTo, reason, place, verdict, printed};
+ghost use Rattle.script.specs.Lines.{before, after};
 ghost use Rattle.script.specs.Statements.{said};
 use crate::hex;
+use crate::lines::split_once;
 use crate::statement::Statement;
 use keyhash::element;
+use refusal::Refusal;
 use std::alloc::AllocError;
 use std::alloc::Global;
 
@@ -19,6 +22,7 @@ pub enum Mistake {
     UnknownStatement,
     NoText,
     NotFortyDigits,
+    NoTermAndName,
 }
 
 // The answer to a statement.
@@ -30,6 +34,8 @@ pub enum Reply {
     Malformed,
     // The text of a hash.
     Text([u8; 119]),
+    // Whether a term covers a name, or that one of them is malformed.
+    Covers(Result<bool, Refusal>),
     // The line is no statement.
     Mistaken(Mistake),
 }
@@ -40,9 +46,12 @@ impl Mistake {
         ensures reason_as_defined { λ r. ⌜ now r ≡ reason self ⌝ }
     {
         match self {
-            Mistake::UnknownStatement => b"unknown statement, expected: hash TEXT or text HEX",
+            Mistake::UnknownStatement =>
+                b"unknown statement, expected: hash TEXT, text HEX or covers TERMHEX NAME",
             Mistake::NoText => b"no text, expected: hash TEXT",
             Mistake::NotFortyDigits => b"not 40 hexadecimal digits, expected: text HEX",
+            Mistake::NoTermAndName =>
+                b"not hexadecimal digits and a name, expected: covers TERMHEX NAME",
         }
     }
 }
@@ -61,25 +70,44 @@ fn read(text: &[u8]) -> Reply
 }
 
 // The answer to `text HEX`.
-fn write(hex: &[u8]) -> Reply
-    ensures { λ r. ⌜ r ≡ textReply (hexBytes 20 (now (hex .entry))) ⌝ }
+fn write(heap: Global, hex: &[u8]) -> Result<Reply, AllocError>
+    ensures { λ r. ⌜ made r (λ x. x ≡ textReply (hexBytes (now (hex .entry)))) ⌝ }
 {
-    let mut hash = [0; 20];
-    if !hex::decode(hex, &mut hash) {
-        return Reply::Mistaken(Mistake::NotFortyDigits);
+    let Some(bytes) = hex::decode(heap, hex)? else {
+        return Ok(Reply::Mistaken(Mistake::NotFortyDigits));
+    };
+    if bytes.len() != 20 {
+        return Ok(Reply::Mistaken(Mistake::NotFortyDigits));
     }
-    Reply::Text(element::write(hash))
+    let mut hash = [0; 20];
+    hash.copy_from_slice(bytes.as_slice());
+    Ok(Reply::Text(element::write(hash)))
+}
+
+// The answer to `covers TERMHEX NAME`.
+fn judge(heap: Global, argument: &[u8]) -> Result<Reply, AllocError>
+    ensures { λ r. ⌜ made r (λ x. x ≡ coversReply (before 32 (now (argument .entry))) (after 32 (now (argument .entry)))) ⌝ }
+{
+    let (digits, name) = split_once(argument, b' ');
+    if name.is_empty() {
+        return Ok(Reply::Mistaken(Mistake::NoTermAndName));
+    }
+    let Some(term) = hex::bytes_named(heap, digits)? else {
+        return Ok(Reply::Mistaken(Mistake::NoTermAndName));
+    };
+    Ok(Reply::Covers(permission::covers(term.as_slice(), name)))
 }
 
 // The answer to a statement, if it says something.
-pub fn evaluate(statement: Statement<'_>) -> Option<Reply>
-    ensures answer_as_defined { λ r. ⌜ r ≡ replyTo (said (statement .entry)) ⌝ }
+pub fn evaluate(heap: Global, statement: Statement<'_>) -> Result<Option<Reply>, AllocError>
+    ensures answer_as_defined { λ r. ⌜ made r (λ o. o ≡ replyTo (said (statement .entry))) ⌝ }
 {
     match statement {
-        Statement::Nothing => None,
-        Statement::Hash(text) => Some(read(text)),
-        Statement::Text(hex) => Some(write(hex)),
-        Statement::Unknown => Some(Reply::Mistaken(Mistake::UnknownStatement)),
+        Statement::Nothing => Ok(None),
+        Statement::Hash(text) => Ok(Some(read(text))),
+        Statement::Text(hex) => Ok(Some(write(heap, hex)?)),
+        Statement::Covers(argument) => Ok(Some(judge(heap, argument)?)),
+        Statement::Unknown => Ok(Some(Reply::Mistaken(Mistake::UnknownStatement))),
     }
 }
 
@@ -103,6 +131,17 @@ fn hash_line(heap: Global, hash: &[u8]) -> Result<Vec<u8>, AllocError>
     Ok(out)
 }
 
+// The line for what a term answers.
+fn verdict_line(heap: Global, answer: Result<bool, Refusal>) -> Result<Vec<u8>, AllocError>
+    ensures { λ r. ⌜ made r (λ v. vec-items v ≡ verdict answer) ⌝ }
+{
+    match answer {
+        Ok(true) => labelled(heap, b"yes", &[]),
+        Ok(false) => labelled(heap, b"no", &[]),
+        Err(_) => labelled(heap, b"malformed", &[]),
+    }
+}
+
 // The line for a mistake on the line of a number.
 fn mistake_line(heap: Global, number: u64, mistake: Mistake) -> Result<Vec<u8>, AllocError>
     ensures { λ r. ⌜ made r (λ v. vec-items v ≡ place number ++ reason mistake) ⌝ }
@@ -120,6 +159,7 @@ pub fn line(heap: Global, number: u64, reply: &Reply) -> Result<Vec<u8>, AllocEr
         Reply::Hash(hash) => hash_line(heap, hash),
         Reply::Malformed => labelled(heap, b"malformed", &[]),
         Reply::Text(text) => labelled(heap, b"text ", text),
+        Reply::Covers(answer) => verdict_line(heap, *answer),
         Reply::Mistaken(mistake) => mistake_line(heap, number, *mistake),
     }
 }

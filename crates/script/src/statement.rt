@@ -13,6 +13,8 @@ pub enum Statement<'a> {
     Hash(&'a [u8]),
     // `text HEX`: write the text of a key hash.
     Text(&'a [u8]),
+    // `covers TERMHEX NAME`: whether a permission term covers a name.
+    Covers(&'a [u8]),
     // Anything else.
     Unknown,
 }
@@ -55,6 +57,9 @@ pub fn parse(line: &[u8]) -> Statement<'_>
     }
     if word == b"text" {
         return Statement::Text(argument);
+    }
+    if word == b"covers" {
+        return Statement::Covers(argument);
     }
     Statement::Unknown
 }

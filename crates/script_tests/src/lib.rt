@@ -5,13 +5,13 @@ mod tests {
     use std::test::*;
 
     const INPUT: &[u8] =
-        b"hash &lt;hash&gt;&lt;algorithm&gt;SHA1&lt;/algorithm&gt;&lt;value&gt;qZk+NkcGgWq6PiVxeFDCbJzQ2J0=&lt;/value&gt;&lt;/hash&gt;\n# a comment\n\n  \t\nhash\ntext A9993E364706816ABA3E25717850C26C9CD0D89D\r\ntext a9993e364706816aba3e25717850c26c9cd0d89\ntext a9993e364706816aba3e25717850c26c9cd0d89g\nHASH &lt;hash&gt;&lt;algorithm&gt;SHA1&lt;/algorithm&gt;&lt;value&gt;qZk+NkcGgWq6PiVxeFDCbJzQ2J0=&lt;/value&gt;&lt;/hash&gt;\nhash  &lt;hash&gt;&lt;algorithm&gt;SHA1&lt;/algorithm&gt;&lt;value&gt;qZk+NkcGgWq6PiVxeFDCbJzQ2J0=&lt;/value&gt;&lt;/hash&gt;\nhash &lt;hash&gt;&lt;algorithm&gt;SHA1&lt;/algorithm&gt;&lt;value&gt;qZk+NkcGgWq6PiVxeFDCbJzQ2J0=&lt;/value&gt;&lt;/hash&gt;";
+        b"hash &lt;hash&gt;&lt;algorithm&gt;SHA1&lt;/algorithm&gt;&lt;value&gt;qZk+NkcGgWq6PiVxeFDCbJzQ2J0=&lt;/value&gt;&lt;/hash&gt;\n# a comment\n\n  \t\nhash\ntext A9993E364706816ABA3E25717850C26C9CD0D89D\r\ntext a9993e364706816aba3e25717850c26c9cd0d89\ntext a9993e364706816aba3e25717850c26c9cd0d89g\nHASH &lt;hash&gt;&lt;algorithm&gt;SHA1&lt;/algorithm&gt;&lt;value&gt;qZk+NkcGgWq6PiVxeFDCbJzQ2J0=&lt;/value&gt;&lt;/hash&gt;\nhash  &lt;hash&gt;&lt;algorithm&gt;SHA1&lt;/algorithm&gt;&lt;value&gt;qZk+NkcGgWq6PiVxeFDCbJzQ2J0=&lt;/value&gt;&lt;/hash&gt;\nhash &lt;hash&gt;&lt;algorithm&gt;SHA1&lt;/algorithm&gt;&lt;value&gt;qZk+NkcGgWq6PiVxeFDCbJzQ2J0=&lt;/value&gt;&lt;/hash&gt;\ncovers 0203414243 ABC\ncovers 0203414243 ABCD\ncovers 0200 ABC\ncovers - ABC\ncovers 01 A B\ncovers 01\ncovers 0 A\ncovers";
 
     const OUTPUT: &[u8] =
-        b"hash a9993e364706816aba3e25717850c26c9cd0d89d\nerror 5: no text, expected: hash TEXT\ntext &lt;hash&gt;&lt;algorithm&gt;SHA1&lt;/algorithm&gt;&lt;value&gt;qZk+NkcGgWq6PiVxeFDCbJzQ2J0=&lt;/value&gt;&lt;/hash&gt;\nerror 7: not 40 hexadecimal digits, expected: text HEX\nerror 8: not 40 hexadecimal digits, expected: text HEX\nerror 9: unknown statement, expected: hash TEXT or text HEX\nmalformed\nhash a9993e364706816aba3e25717850c26c9cd0d89d\n";
+        b"hash a9993e364706816aba3e25717850c26c9cd0d89d\nerror 5: no text, expected: hash TEXT\ntext &lt;hash&gt;&lt;algorithm&gt;SHA1&lt;/algorithm&gt;&lt;value&gt;qZk+NkcGgWq6PiVxeFDCbJzQ2J0=&lt;/value&gt;&lt;/hash&gt;\nerror 7: not 40 hexadecimal digits, expected: text HEX\nerror 8: not 40 hexadecimal digits, expected: text HEX\nerror 9: unknown statement, expected: hash TEXT, text HEX or covers TERMHEX NAME\nmalformed\nhash a9993e364706816aba3e25717850c26c9cd0d89d\nyes\nno\nmalformed\nmalformed\nmalformed\nerror 17: not hexadecimal digits and a name, expected: covers TERMHEX NAME\nerror 18: not hexadecimal digits and a name, expected: covers TERMHEX NAME\nerror 19: not hexadecimal digits and a name, expected: covers TERMHEX NAME\n";
 
     const COUNTS: &str =
-        "# texts read as a hash: 2\n# texts malformed: 1\n# texts written: 1\n# lines in error: 4\n";
+        "# texts read as a hash: 2\n# texts malformed: 1\n# texts written: 1\n# terms judged: 5\n# lines in error: 7\n";
 
     #[test]
     fn answers_each_line_and_goes_on(rt: LibcRuntime) -> Result<(), Fail> {

@@ -1,4 +1,4 @@
-//! Reads and writes ten million key hash texts through the proved library and through plain Rust, in one run.
+//! The proved library beside plain Rust, in one run: ten million key hash texts read and written, and ten million terms asked.
 
 mod plain;
 mod proved;
@@ -47,7 +47,7 @@ fn compare(name: &str, mut ours: impl FnMut(usize), mut theirs: impl FnMut(usize
     }
     let each = |seconds: f64| seconds * 1e9 / (TEXTS / ROUNDS) as f64;
     println!(
-        "{name:<12} {TEXTS} texts: proved {:6.1} ns, plain Rust {:6.1} ns, ratio {:.2}",
+        "{name:<18} {TEXTS} times: proved {:6.1} ns, plain Rust {:6.1} ns, ratio {:.2}",
         each(best_ours),
         each(best_theirs),
         best_theirs / best_ours
@@ -67,6 +67,43 @@ fn check(hashes: &[[u8; 20]], texts: &[[u8; 119]], numbers: &mut Numbers) {
         assert_eq!(proved::read(&damaged), plain::read(&damaged), "the readers disagree on a damaged text");
         let shorter = &text[..numbers.next() as usize % 119];
         assert_eq!(proved::read(shorter), plain::read(shorter), "the readers disagree on a short text");
+    }
+}
+
+/// Sets of depth 4 and 48 bytes, with names that they cover and names that they do not.
+fn terms() -> Vec<(&'static str, Vec<u8>, Vec<&'static [u8]>)> {
+    let nested = |inner: &[u8]| [&[5, 1, 5, 1, 5, 1], inner].concat();
+    let ranges: Vec<u8> = [b"AB", b"DE", b"GH", b"JK", b"MN"].iter().flat_map(|low| [&[4, 2], &low[..], &[1, b'Z']].concat()).collect();
+    let ranges = nested(&[&[5, 6], &ranges[..], &[3, 8], b"abcdefgh"].concat());
+    let names = nested(&[&[5, 3, 2, 9], &b"SetTarget"[..], &[2, 12], b"GetTargetNow", &[3, 13], b"UnlockTheDoor"].concat());
+    vec![
+        ("covering, ranges", ranges, vec![b"SetTarget", b"AA", b"abcdefghi", b"a"]),
+        ("covering, names", names, vec![b"SetTarget", b"GetTargetNow", b"UnlockTheDoor", b"Switch"]),
+    ]
+}
+
+fn covering(numbers: &mut Numbers) {
+    for (label, term, names) in terms() {
+        assert_eq!(term.len(), 48, "{label}");
+        for name in &names {
+            assert_eq!(proved::covers(&term, name), plain::covers(&term, name));
+            assert!(plain::covers(&term, name).is_some(), "{label} is well formed");
+        }
+        for _ in 0..100_000 {
+            let mut damaged = term.clone();
+            damaged[numbers.next() as usize % term.len()] = numbers.next() as u8;
+            damaged.truncate(term.len() - numbers.next() as usize % 3);
+            assert_eq!(proved::covers(&damaged, names[0]), plain::covers(&damaged, names[0]), "damaged term {damaged:x?}");
+        }
+        compare(
+            label,
+            |i| {
+                black_box(proved::covers(black_box(&term), black_box(names[i % 4])));
+            },
+            |i| {
+                black_box(plain::covers(black_box(&term), black_box(names[i % 4])));
+            },
+        );
     }
 }
 
@@ -98,4 +135,5 @@ fn main() {
             plain::write(black_box(&hashes[i]), black_box(&mut theirs));
         },
     );
+    covering(&mut numbers);
 }

@@ -1,4 +1,4 @@
-//! The text of a key hash in plain Rust, written independently of the proved code: a lookup table each way.
+//! Key hash texts and permission terms in plain Rust, written independently of the proved code.
 
 const ALPHABET: &[u8; 64] = b"ABCDEFGHIJKLMNOPQRSTUVWXYZabcdefghijklmnopqrstuvwxyz0123456789+/";
 const OPENING: &[u8] = b"&lt;hash&gt;&lt;algorithm&gt;SHA1&lt;/algorithm&gt;&lt;value&gt;";
@@ -61,4 +61,56 @@ pub fn read(text: &[u8]) -> Option<[u8; 20]> {
     let mut hash = [0u8; 20];
     hash.copy_from_slice(&padded[..20]);
     Some(hash)
+}
+
+fn text_in(bytes: &[u8]) -> Option<(&[u8], &[u8])> {
+    let (length, rest) = bytes.split_first()?;
+    if *length > 16 {
+        return None;
+    }
+    let (text, rest) = rest.split_at_checked(usize::from(*length))?;
+    text.iter().all(|b| (0x21..=0x7e).contains(b)).then_some((text, rest))
+}
+
+fn name_in(bytes: &[u8]) -> Option<(&[u8], &[u8])> {
+    text_in(bytes).filter(|(name, _)| !name.is_empty())
+}
+
+fn term_in<'a>(bytes: &'a [u8], name: &[u8], deep: u8) -> Option<(bool, &'a [u8])> {
+    let (form, rest) = bytes.split_first()?;
+    match form {
+        1 => Some((true, rest)),
+        2 => name_in(rest).map(|(own, rest)| (own == name, rest)),
+        3 => text_in(rest).map(|(front, rest)| (name.starts_with(front), rest)),
+        4 => {
+            let (low, rest) = name_in(rest)?;
+            let (high, rest) = name_in(rest)?;
+            (low <= high).then_some((low <= name && name <= high, rest))
+        }
+        5 => {
+            let (count, mut rest) = rest.split_first()?;
+            if *count > 8 || deep == 0 {
+                return None;
+            }
+            let mut any = false;
+            for _ in 0..*count {
+                let (covered, after) = term_in(rest, name, deep - 1)?;
+                any |= covered;
+                rest = after;
+            }
+            Some((any, rest))
+        }
+        _ => None,
+    }
+}
+
+/// Whether a term covers a name; none where one of them is malformed.
+#[inline(never)]
+pub fn covers(term: &[u8], name: &[u8]) -> Option<bool> {
+    let named = (1..=16).contains(&name.len()) && name.iter().all(|b| (0x21..=0x7e).contains(b));
+    if !named || term.len() > 48 {
+        return None;
+    }
+    let (covered, rest) = term_in(term, name, 4)?;
+    rest.is_empty().then_some(covered)
 }

@@ -4,6 +4,14 @@ mod entries {
     unsafe extern "C" {
         pub fn hub_hash_read(text: *const u8, text_len: usize, hash: *mut u8, hash_len: usize) -> u32;
         pub fn hub_hash_write(hash: *const u8, hash_len: usize, text: *mut u8, text_len: usize) -> u32;
+        pub fn hub_term_covers(
+            term: *const u8,
+            term_len: usize,
+            name: *const u8,
+            name_len: usize,
+            covered: *mut u8,
+            covered_len: usize,
+        ) -> u32;
     }
 }
 
@@ -20,4 +28,14 @@ pub fn write(hash: &[u8; 20], text: &mut [u8; 119]) {
     // As above.
     let code = unsafe { entries::hub_hash_write(hash.as_ptr(), hash.len(), text.as_mut_ptr(), text.len()) };
     debug_assert_eq!(code, 0);
+}
+
+/// Whether a term covers a name; none where one of them is malformed.
+pub fn covers(term: &[u8], name: &[u8]) -> Option<bool> {
+    let mut covered = [0u8];
+    // As above.
+    let code = unsafe {
+        entries::hub_term_covers(term.as_ptr(), term.len(), name.as_ptr(), name.len(), covered.as_mut_ptr(), covered.len())
+    };
+    (code == 0).then_some(covered[0] == 1)
 }

@@ -9,12 +9,13 @@ use Rattle.std.specs.shelf.Digits.{number}
 use Rattle.std.proofs.shelf.Lists.{append-assoc, append-nil, take-all}
 use Rattle.std.proofs.shelf.Parts.{pushed}
 use Rattle.keyhash.specs.Numeral.{numeral}
+use Rattle.keyhash.proofs.Numbers.{numeral-none}
 use Rattle.script.specs.Hex.{hexCharacter, hexText}
-use Rattle.script.proofs.Hexes.{no-digits, text-more}
+use Rattle.script.proofs.Hexes.{text-more}
 use Rattle.script.proofs.hex.push.Needs as need
 
 pub loop-b-holds : need.loop-b-holds
-loop-b-holds c = sym (append-nil (vec-items (c .args .out .now))) ∙ ap (λ ds. vec-items (c .args .out .now) ++ map hexCharacter ds) (sym (no-digits 0))
+loop-b-holds c = sym (append-nil (vec-items (c .args .out .now))) ∙ ap (λ ds. vec-items (c .args .out .now) ++ map hexCharacter ds) (sym (numeral-none 16 0))
 
 pub loop-b-again : need.loop-b-again
 loop-b-again c =

@@ -10,3 +10,6 @@ returns-in-NoText c = record { reason-as-defined = sym (ap reason (c .in-NoText 
 
 pub returns-in-NotFortyDigits : need.returns-in-NotFortyDigits
 returns-in-NotFortyDigits c = record { reason-as-defined = sym (ap reason (c .in-NotFortyDigits .is)) }
+
+pub returns-in-NoTermAndName : need.returns-in-NoTermAndName
+returns-in-NoTermAndName c = record { reason-as-defined = sym (ap reason (c .in-NoTermAndName .is)) }
