@@ -13,7 +13,7 @@ use Rattle.std.proofs.shelf.Equals.{sameBytes-decides}
 use Rattle.std.proofs.shelf.Lists.{append-assoc, append-nil, take-all, drop-all, take-more, at-drop-more, at-drop-all, nil-from-length}
 use Rattle.std.proofs.shelf.Ways.{tells, decides-eqb, not-from-decides}
 use Rattle.script.specs.Lines.{before, after, space, blank, comment, longer, linesOf, trimmed}
-use Rattle.script.specs.Statements.{Said, nothing, hash, text, covers, unknown, says}
+use Rattle.script.specs.Statements.{Said, nothing, hash, text, covers, sha1, hmac, unknown, says}
 
 and-assoc : (a b c : Bool) → ((a && b) && c) ≡ (a && (b && c))
 and-assoc true b c = refl
@@ -64,6 +64,12 @@ module _ (line : List ℕ) (p : blank line ≡ false) (q : comment line ≡ fals
   pub says-covers : before 32 line ≡ codes "covers" → says line ≡ covers (after 32 line)
   says-covers e = simp (p, q, e)
 
+  pub says-sha1 : before 32 line ≡ codes "sha1" → says line ≡ sha1 (after 32 line)
+  says-sha1 e = simp (p, q, e)
+
+  pub says-hmac : before 32 line ≡ codes "hmac" → says line ≡ hmac (after 32 line)
+  says-hmac e = simp (p, q, e)
+
   other : (word : List ℕ) → (before 32 line ≡ word → ⊥) → sameBytes (before 32 line) word ≡ false
   other word no-word = by _ (sameBytes-decides (before 32 line) word)
     where
@@ -71,8 +77,8 @@ module _ (line : List ℕ) (p : blank line ≡ false) (q : comment line ≡ fals
       by true decides = absurd (no-word (decides .0 refl))
       by false decides = refl
 
-  pub says-unknown : (before 32 line ≡ codes "hash" → ⊥) → (before 32 line ≡ codes "text" → ⊥) → (before 32 line ≡ codes "covers" → ⊥) → says line ≡ unknown
-  says-unknown no-hash no-text no-covers = simp (p, q, other (codes "hash") no-hash, other (codes "text") no-text, other (codes "covers") no-covers)
+  pub says-unknown : (before 32 line ≡ codes "hash" → ⊥) → (before 32 line ≡ codes "text" → ⊥) → (before 32 line ≡ codes "covers" → ⊥) → (before 32 line ≡ codes "sha1" → ⊥) → (before 32 line ≡ codes "hmac" → ⊥) → says line ≡ unknown
+  says-unknown no-hash no-text no-covers no-sha1 no-hmac = simp (p, q, other (codes "hash") no-hash, other (codes "text") no-text, other (codes "covers") no-covers, other (codes "sha1") no-sha1, other (codes "hmac") no-hmac)
 
 -- lines that do not end with a carriage return
 pub trimmed-empty : (line : List ℕ) → length line ≡ 0 → trimmed line ≡ line

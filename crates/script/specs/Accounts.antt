@@ -7,9 +7,9 @@ use Rattle.std.specs.Of.Vec.{vec-items}
 use Rattle.std.specs.Written.{decimal}
 use Rattle.script.specs.declared.account.Account.{Account}
 use Rattle.script.specs.declared.reply.Reply.{Reply}
-use Rattle.script.specs.declared.reply.Reply.the-variants.{Hash, Malformed, Text, Covers, Mistaken}
+use Rattle.script.specs.declared.reply.Reply.the-variants.{Hash, Malformed, Text, Covers, Digest, Mistaken}
 
--- each hash that a text read as, in the order of the texts, and how many other answers of each kind there were
+-- each hash that a text read as, in the order of the texts, and how many answers of each other kind there were that an account is given of
 pub record Tally : Type 0 where
   pub hashes : List (List ℕ)
   pub malformed : ℕ
@@ -30,6 +30,7 @@ noted t (Hash value) = record { hashes = t .hashes ++ value ∷ []; malformed = 
 noted t Malformed = record { hashes = t .hashes; malformed = oneMore (t .malformed); written = t .written; judged = t .judged; mistakes = t .mistakes }
 noted t (Text value) = record { hashes = t .hashes; malformed = t .malformed; written = oneMore (t .written); judged = t .judged; mistakes = t .mistakes }
 noted t (Covers answer) = record { hashes = t .hashes; malformed = t .malformed; written = t .written; judged = oneMore (t .judged); mistakes = t .mistakes }
+noted t (Digest value) = t
 noted t (Mistaken mistake) = record { hashes = t .hashes; malformed = t .malformed; written = t .written; judged = t .judged; mistakes = oneMore (t .mistakes) }
 
 -- what an account holds

@@ -33,4 +33,5 @@ hexBytes hex = cond (eqb (length hex % 2) 0 && allHex hex) (Some (numeral 256 (l
 
 -- the bytes that a word names: digits, or '-' for no bytes
 abbrev pub bytesNamed : List ℕ → Option (List ℕ)
-bytesNamed word = cond (sameBytes word (codes "-")) (Some []) (hexBytes word)
+bytesNamed [] = None
+bytesNamed (c ∷ cs) = cond (sameBytes (c ∷ cs) (codes "-")) (Some []) (hexBytes (c ∷ cs))

@@ -97,6 +97,7 @@ impl Account {
             Reply::Malformed => self.malformed = self.malformed.saturating_add(1),
             Reply::Text(_) => self.written = self.written.saturating_add(1),
             Reply::Covers(_) => self.judged = self.judged.saturating_add(1),
+            Reply::Digest(_) => {}
             Reply::Mistaken(_) => self.mistakes = self.mistakes.saturating_add(1),
         }
         Ok(())

@@ -68,6 +68,9 @@ pub fn decode(heap: Global, hex: &[u8]) -> Result<Option<Vec<u8>>, AllocError>
 pub fn bytes_named(heap: Global, word: &[u8]) -> Result<Option<Vec<u8>>, AllocError>
     ensures digits_or_a_dash { λ r. ⌜ made r (λ o. mapped vec-items o ≡ bytesNamed (now (word .entry))) ⌝ }
 {
+    if word.is_empty() {
+        return Ok(None);
+    }
     if is_dash(word) {
         return Ok(Some(Vec::new(heap)));
     }

@@ -4,8 +4,8 @@ ghost use mathlib.Core.List.{List, [], _∷_, _++_};
 ghost use lib.Chars.{codes};
 ghost use Rattle.std.specs.Of.Vec.{vec-items};
 ghost use Rattle.std.specs.Vec.{made};
-ghost use Rattle.script.specs.Hex.{hexText, hexBytes};
-ghost use Rattle.script.specs.Replies.{hashReply, textReply, coversReply, replyTo, reason, place, verdict, printed};
+ghost use Rattle.script.specs.Hex.{hexText, hexBytes, bytesNamed};
+ghost use Rattle.script.specs.Replies.{hashReply, textReply, coversReply, sha1Reply, keyOf, hmacReply, replyTo, reason, place, verdict, printed};
 ghost use Rattle.script.specs.Lines.{before, after};
 ghost use Rattle.script.specs.Statements.{said};
 use crate::hex;
@@ -23,6 +23,8 @@ pub enum Mistake {
     NoText,
     NotFortyDigits,
     NoTermAndName,
+    NoBytes,
+    NoKeyAndBytes,
 }
 
 // The answer to a statement.
@@ -36,6 +38,8 @@ pub enum Reply {
     Text([u8; 119]),
     // Whether a term covers a name, or that one of them is malformed.
     Covers(Result<bool, Refusal>),
+    // A digest or a tag.
+    Digest([u8; 20]),
     // The line is no statement.
     Mistaken(Mistake),
 }
@@ -47,9 +51,12 @@ impl Mistake {
     {
         match self {
             Mistake::UnknownStatement =>
-                b"unknown statement, expected: hash TEXT, text HEX or covers TERMHEX NAME",
+                b"unknown statement, expected: hash TEXT, text HEX, covers TERMHEX NAME, sha1 HEX or hmac KEYHEX HEX",
             Mistake::NoText => b"no text, expected: hash TEXT",
             Mistake::NotFortyDigits => b"not 40 hexadecimal digits, expected: text HEX",
+            Mistake::NoBytes => b"not hexadecimal digits, expected: sha1 HEX",
+            Mistake::NoKeyAndBytes =>
+                b"not a key of at most 20 bytes and hexadecimal digits, expected: hmac KEYHEX HEX",
             Mistake::NoTermAndName =>
                 b"not hexadecimal digits and a name, expected: covers TERMHEX NAME",
         }
@@ -98,6 +105,46 @@ fn judge(heap: Global, argument: &[u8]) -> Result<Reply, AllocError>
     Ok(Reply::Covers(permission::covers(term.as_slice(), name)))
 }
 
+// The answer to `sha1 HEX`.
+fn digest_of(heap: Global, word: &[u8]) -> Result<Reply, AllocError>
+    ensures { λ r. ⌜ made r (λ x. x ≡ sha1Reply (bytesNamed (now (word .entry)))) ⌝ }
+{
+    let Some(bytes) = hex::bytes_named(heap, word)? else {
+        return Ok(Reply::Mistaken(Mistake::NoBytes));
+    };
+    Ok(Reply::Digest(sha1::sha1(bytes.as_slice())))
+}
+
+// A key of at most 20 bytes, filled up with zeros.
+fn key_of(bytes: &[u8]) -> Option<[u8; 20]>
+    ensures { λ r. ⌜ r ≡ keyOf (now (bytes .entry)) ⌝ }
+{
+    let count = bytes.len();
+    if count > 20 {
+        return None;
+    }
+    let mut key = [0; 20];
+    key[0..count].copy_from_slice(bytes);
+    Some(key)
+}
+
+// The answer to `hmac KEYHEX HEX`.
+fn tag_of(heap: Global, argument: &[u8]) -> Result<Reply, AllocError>
+    ensures { λ r. ⌜ made r (λ x. x ≡ hmacReply (bytesNamed (before 32 (now (argument .entry)))) (bytesNamed (after 32 (now (argument .entry))))) ⌝ }
+{
+    let (first, second) = split_once(argument, b' ');
+    let Some(secret) = hex::bytes_named(heap, first)? else {
+        return Ok(Reply::Mistaken(Mistake::NoKeyAndBytes));
+    };
+    let Some(bytes) = hex::bytes_named(heap, second)? else {
+        return Ok(Reply::Mistaken(Mistake::NoKeyAndBytes));
+    };
+    let Some(key) = key_of(secret.as_slice()) else {
+        return Ok(Reply::Mistaken(Mistake::NoKeyAndBytes));
+    };
+    Ok(Reply::Digest(sha1::hmac(key, bytes.as_slice())))
+}
+
 // The answer to a statement, if it says something.
 pub fn evaluate(heap: Global, statement: Statement<'_>) -> Result<Option<Reply>, AllocError>
     ensures answer_as_defined { λ r. ⌜ made r (λ o. o ≡ replyTo (said (statement .entry))) ⌝ }
@@ -107,6 +154,8 @@ pub fn evaluate(heap: Global, statement: Statement<'_>) -> Result<Option<Reply>,
         Statement::Hash(text) => Ok(Some(read(text))),
         Statement::Text(hex) => Ok(Some(write(heap, hex)?)),
         Statement::Covers(argument) => Ok(Some(judge(heap, argument)?)),
+        Statement::Sha1(word) => Ok(Some(digest_of(heap, word)?)),
+        Statement::Hmac(argument) => Ok(Some(tag_of(heap, argument)?)),
         Statement::Unknown => Ok(Some(Reply::Mistaken(Mistake::UnknownStatement))),
     }
 }
@@ -128,6 +177,15 @@ fn hash_line(heap: Global, hash: &[u8]) -> Result<Vec<u8>, AllocError>
     let mut out = Vec::new(heap);
     out.extend_from_slice(b"hash ")?;
     hex::push(&mut out, hash)?;
+    Ok(out)
+}
+
+// The line for a digest or a tag.
+fn digest_line(heap: Global, value: &[u8]) -> Result<Vec<u8>, AllocError>
+    ensures { λ r. ⌜ made r (λ v. vec-items v ≡ hexText (now (value .entry))) ⌝ }
+{
+    let mut out = Vec::new(heap);
+    hex::push(&mut out, value)?;
     Ok(out)
 }
 
@@ -160,6 +218,7 @@ pub fn line(heap: Global, number: u64, reply: &Reply) -> Result<Vec<u8>, AllocEr
         Reply::Malformed => labelled(heap, b"malformed", &[]),
         Reply::Text(text) => labelled(heap, b"text ", text),
         Reply::Covers(answer) => verdict_line(heap, *answer),
+        Reply::Digest(value) => digest_line(heap, value),
         Reply::Mistaken(mistake) => mistake_line(heap, number, *mistake),
     }
 }

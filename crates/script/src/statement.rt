@@ -15,6 +15,10 @@ pub enum Statement<'a> {
     Text(&'a [u8]),
     // `covers TERMHEX NAME`: whether a permission term covers a name.
     Covers(&'a [u8]),
+    // `sha1 HEX`: the digest of some bytes.
+    Sha1(&'a [u8]),
+    // `hmac KEYHEX HEX`: the tag of some bytes under a key.
+    Hmac(&'a [u8]),
     // Anything else.
     Unknown,
 }
@@ -60,6 +64,12 @@ pub fn parse(line: &[u8]) -> Statement<'_>
     }
     if word == b"covers" {
         return Statement::Covers(argument);
+    }
+    if word == b"sha1" {
+        return Statement::Sha1(argument);
+    }
+    if word == b"hmac" {
+        return Statement::Hmac(argument);
     }
     Statement::Unknown
 }

@@ -13,3 +13,9 @@ returns-in-NotFortyDigits c = record { reason-as-defined = sym (ap reason (c .in
 
 pub returns-in-NoTermAndName : need.returns-in-NoTermAndName
 returns-in-NoTermAndName c = record { reason-as-defined = sym (ap reason (c .in-NoTermAndName .is)) }
+
+pub returns-in-NoBytes : need.returns-in-NoBytes
+returns-in-NoBytes c = record { reason-as-defined = sym (ap reason (c .in-NoBytes .is)) }
+
+pub returns-in-NoKeyAndBytes : need.returns-in-NoKeyAndBytes
+returns-in-NoKeyAndBytes c = record { reason-as-defined = sym (ap reason (c .in-NoKeyAndBytes .is)) }

@@ -1,0 +1,5 @@
+pub mod Schedule
+pub mod Digest
+pub mod Absorbing
+pub mod Padding
+pub mod Masks
