@@ -106,7 +106,7 @@ fn hmac_case(heap: Global, words: &str) -> Result<String, AnyError> {
 }
 
 // What the crate answers to one line.
-pub fn answer(heap: Global, line: &str) -> Result<String, AnyError> {
+pub(crate) fn answer(heap: Global, line: &str) -> Result<String, AnyError> {
     let (kind, words) = line.split_once(' ').ok_or("no case")?;
     match kind {
         "sha1" => hash_case(heap, words),
