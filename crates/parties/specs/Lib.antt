@@ -1,0 +1,5 @@
+pub mod Standing
+pub mod Commands
+pub mod Relays
+pub mod Waiting
+pub mod Outboxes
