@@ -1,7 +1,9 @@
-// Links the proved static library, which `tools/bench.sh` builds first.
+// Links the proved static libraries, which `tools/bench.sh` builds first.
 fn main() {
     let root = std::env::var("CARGO_MANIFEST_DIR").expect("cargo sets CARGO_MANIFEST_DIR");
     println!("cargo:rustc-link-search=native={root}/../../target/staticlib");
-    println!("cargo:rustc-link-lib=static=webfront");
-    println!("cargo:rerun-if-changed={root}/../../target/staticlib/libwebfront.a");
+    for name in ["webfront", "bench_entries"] {
+        println!("cargo:rustc-link-lib=static={name}");
+        println!("cargo:rerun-if-changed={root}/../../target/staticlib/lib{name}.a");
+    }
 }

@@ -1,4 +1,5 @@
-//! The proved library beside plain Rust, in one run: ten million key hash texts read and written, and ten million terms asked.
+//! The proved library beside plain Rust, in one run: ten million key hash texts read and written, ten million
+//! terms asked, and SHA-1 of short and long texts.
 
 mod plain;
 mod proved;
@@ -107,6 +108,34 @@ fn covering(numbers: &mut Numbers) {
     }
 }
 
+fn hashing(numbers: &mut Numbers) {
+    for length in [64usize, 1024, 1 << 20] {
+        let text: Vec<u8> = (0..length).map(|_| (numbers.next() >> 56) as u8).collect();
+        for cut in 0..length.min(200) {
+            assert_eq!(proved::sha1(&text[..cut]), plain::sha1(&text[..cut]), "SHA-1 of {cut} bytes");
+        }
+        assert_eq!(proved::sha1(&text), plain::sha1(&text), "SHA-1 of {length} bytes");
+        let times = (1 << 26) / length;
+        let rate = |work: &dyn Fn()| {
+            let start = Instant::now();
+            for _ in 0..times {
+                work();
+            }
+            (times * length) as f64 / start.elapsed().as_secs_f64() / 1e6
+        };
+        let (mut ours, mut theirs) = (0f64, 0f64);
+        for _ in 0..ROUNDS {
+            theirs = theirs.max(rate(&|| {
+                black_box(plain::sha1(black_box(&text)));
+            }));
+            ours = ours.max(rate(&|| {
+                black_box(proved::sha1(black_box(&text)));
+            }));
+        }
+        println!("SHA-1 of {length} bytes: proved {ours:.0} MB/s, plain Rust {theirs:.0} MB/s, ratio {:.2}", ours / theirs);
+    }
+}
+
 fn main() {
     let mut numbers = Numbers(0x9e37_79b9_7f4a_7c15);
     let hashes: Vec<[u8; 20]> = (0..DISTINCT).map(|_| numbers.hash()).collect();
@@ -136,4 +165,5 @@ fn main() {
         },
     );
     covering(&mut numbers);
+    hashing(&mut numbers);
 }
