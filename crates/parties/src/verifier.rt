@@ -14,7 +14,7 @@ pub trait Verifier {
     // Whether a tag stands for a key and a text, in this order: key, text, tag.
     ghost stands: { Self → List ℕ → List ℕ → List ℕ → Bool };
 
-    // What holds of every verifier stands in the two contracts and not in a `law`, which an `impl` for a type with a lifetime cannot answer.
+    // What holds of every verifier stands in the two contracts and not in a `law`: the checker makes no proof of a law for an `impl` with a lifetime.
     fn tag_width() -> usize
         ensures is_the_width { λ r. ⌜ r ≡ width ⌝ }
         ensures has_1_to_20_bytes { λ _. ⌜ (1 ≤ width) × (width ≤ 20) ⌝ };
