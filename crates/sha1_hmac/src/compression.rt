@@ -52,7 +52,7 @@ impl RoundFunction for Majority {
 
 // One round over the working variables.
 fn one_round<F: RoundFunction>(s: [u32; 5], k: u32, w: u32) -> [u32; 5]
-    ensures { result ≡ round gives k w s }
+    ensures { result ≡ round F.gives k w s }
 {
     let [a, b, c, d, e] = s;
     let f = F::of(b, c, d);
@@ -67,7 +67,7 @@ fn one_round<F: RoundFunction>(s: [u32; 5], k: u32, w: u32) -> [u32; 5]
 
 // Four rounds with one function and one constant.
 fn four_rounds<F: RoundFunction>(s: [u32; 5], k: u32, w: [u32; 4]) -> [u32; 5]
-    ensures { result ≡ four gives k w s }
+    ensures { result ≡ four F.gives k w s }
 {
     let [w0, w1, w2, w3] = w;
     let s = one_round::<F>(s, k, w0);
@@ -132,7 +132,7 @@ fn next_round<F: RoundFunction>(
     z: u32,
     v: u32,
 ) -> ([u32; 5], u32)
-    ensures state { result.0 ≡ round gives k (mixed x y z v) s }
+    ensures state { result.0 ≡ round F.gives k (mixed x y z v) s }
     ensures word { result.1 ≡ mixed x y z v }
 {
     let [a, b, c, d, e] = s;
@@ -149,7 +149,7 @@ fn next_round<F: RoundFunction>(
 
 // Four words on, and four rounds over them.
 fn next_rounds<F: RoundFunction>(s: [u32; 5], k: u32, w: Window) -> ([u32; 5], Window)
-    ensures state { result.0 ≡ four gives k (advanced w).newest s }
+    ensures state { result.0 ≡ four F.gives k (advanced w).newest s }
     ensures words { result.1 ≡ advanced w }
 {
     let Window {

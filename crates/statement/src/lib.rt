@@ -59,19 +59,19 @@ pub fn parse(line: &[u8]) -> Statement<'_>
         return Statement::Nothing;
     }
     let (word, argument) = split_once(line, b' ');
-    if word == b"hash" {
+    if word == b"hash".as_slice() {
         return Statement::Hash(argument);
     }
-    if word == b"text" {
+    if word == b"text".as_slice() {
         return Statement::Text(argument);
     }
-    if word == b"covers" {
+    if word == b"covers".as_slice() {
         return Statement::Covers(argument);
     }
-    if word == b"sha1" {
+    if word == b"sha1".as_slice() {
         return Statement::Sha1(argument);
     }
-    if word == b"hmac" {
+    if word == b"hmac".as_slice() {
         return Statement::Hmac(argument);
     }
     Statement::Unknown

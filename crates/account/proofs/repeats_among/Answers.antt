@@ -15,6 +15,6 @@ returns c =
     let moved = subst (λ (xs : List (List ℕ)). IsPermutation xs (vec_items c.sort.new.self)) copied c.sort.ensures.permutation in
     let long = sym c.sort.new.self.ok.0 ∙ c.sort.ensures.len in
     let lists = sorted_repeats hashes sorted _ moved long (c.sort.ensures.sorted (lexical nat_cmp_total)) in
-    IfOk-weaker c.repeats-in.result (λ v. vec_items v ≡ repeats c.as-slice.result.now) (λ v. ListsEachRepeatedHashOnce c.args.hashes.now (vec_items v))
-    (λ v e. subst (ListsEachRepeatedHashOnce hashes) (sym (e ∙ ap repeats c.as-slice.ensures.value)) lists)
-    c.repeats-in.ensures
+    IfOk-weaker c.repeats_in.result (λ v. vec_items v ≡ repeats c.as_slice.result.now) (λ v. ListsEachRepeatedHashOnce c.args.hashes.now (vec_items v))
+    (λ v e. subst (ListsEachRepeatedHashOnce hashes) (sym (e ∙ ap repeats c.as_slice.ensures.value)) lists)
+    c.repeats_in.ensures

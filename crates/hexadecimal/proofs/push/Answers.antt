@@ -16,12 +16,12 @@ loop-b-preserved c =
     let i = c.loop-b.b-index in
     let old = vec_items c.args.out.now in
     let front = map hex_character (numeral 16 (2 * i) (number_from_digits 256 (take i c.args.bytes.now))) in
-    let one = pushed (c.character-of.result ∷ []) c.loop-b.invariant c.in-ok-push.was c.push.ensures.items in
-    let two = pushed (c.character-of-in-loop-b.result ∷ []) one c.in-ok-push-2.was c.push-in-loop-b.ensures.items in
+    let one = pushed (c.character_of.result ∷ []) c.loop-b.invariant c.in-ok-push.was c.push.ensures.items in
+    let two = pushed (c.character_of-in-loop-b.result ∷ []) one c.in-ok-push-2.was c.push-in-loop-b.ensures.items in
     two
-    ∙ append_assoc (old ++ front) (c.character-of.result ∷ []) (c.character-of-in-loop-b.result ∷ [])
-    ∙ append_assoc old front (c.character-of.result ∷ c.character-of-in-loop-b.result ∷ [])
-    ∙ ap (λ xs. old ++ xs) (text_more c.args.bytes.now i _ _ (omega arith) (c.type-inv.bytes i).fits c.character-of.ensures c.character-of-in-loop-b.ensures)
+    ∙ append_assoc (old ++ front) (c.character_of.result ∷ []) (c.character_of-in-loop-b.result ∷ [])
+    ∙ append_assoc old front (c.character_of.result ∷ c.character_of-in-loop-b.result ∷ [])
+    ∙ ap (λ xs. old ++ xs) (text_more c.args.bytes.now i _ _ (omega arith) (c.type-inv.bytes i).fits c.character_of.ensures c.character_of-in-loop-b.ensures)
 
 pub returns : goal.returns
 unfolding hex_text
@@ -29,4 +29,4 @@ returns c =
     let bytes = c.args.bytes.now in
     let end : c.loop-b.b-index ≡ length c.args.bytes.now = omega arith in
     let inv = subst (λ (i : ℕ). vec_items c.loop-b.out ≡ vec_items c.args.out.now ++ map hex_character (numeral 16 (2 * i) (number_from_digits 256 (take i c.args.bytes.now)))) end c.loop-b.invariant in
-    record { adds-two-digits-a-byte = inv ∙ ap (λ xs. vec_items c.args.out.now ++ map hex_character (numeral 16 (2 * length bytes) (number_from_digits 256 xs))) (take_all (length bytes) bytes (omega arith)) }
+    record { adds_two_digits_a_byte = inv ∙ ap (λ xs. vec_items c.args.out.now ++ map hex_character (numeral 16 (2 * length bytes) (number_from_digits 256 xs))) (take_all (length bytes) bytes (omega arith)) }

@@ -4,57 +4,57 @@ use Rattle.permission.specs.Reading.{term_in, judged}
 use Rattle.permission.proofs.Fronts.{first_and_rest}
 use Rattle.permission.proofs.Walks.{a_set, no_set, no_term, no_members_without_first, members_after_first, members_left, members_of_the_last, no_members_of_the_last}
 use Rattle.permission.proofs.+members_in_set_in_term_in.Goals as goal
-use Rattle.permission.proofs.+members_in_set_in_term_in.Goals.{term-in-in-default-via-then-bytes-lt1, term-in-in-default-via-else-bytes-lt1+in-default·}
+use Rattle.permission.proofs.+members_in_set_in_term_in.Goals.{term_in-in-default-via-then-bytes-lt1, term_in-in-default-via-else-bytes-lt1+in-default·}
 
 -- the same bytes read the same
 at_front : {bs front : List ℕ} (name : List ℕ) (deep : ℕ) → bs ≡ front → judged name (term_in deep front) ≡ judged name (term_in deep bs)
 at_front name deep e = sym (ap (λ b. judged name (term_in deep b)) e)
 
-pub term-in-returns-in-1 : goal.term-in-returns-in-1
-term-in-returns-in-1 t c =
+pub term_in-returns-in-1 : goal.term_in-returns-in-1
+term_in-returns-in-1 t c =
     let some : 0 < length c.args.bytes.now = search rules in
     let form : get_or c.args.bytes.now 0 0 ≡ 1 = search rules in
     at_front c.args.name.now c.args.deep (first_and_rest _ _ some form)
 
-pub term-in-returns-in-2 : goal.term-in-returns-in-2
-term-in-returns-in-2 t c =
+pub term_in-returns-in-2 : goal.term_in-returns-in-2
+term_in-returns-in-2 t c =
     let some : 0 < length c.args.bytes.now = search rules in
     let form : get_or c.args.bytes.now 0 0 ≡ 2 = search rules in
-    c.elt-in.ensures ∙ at_front c.args.name.now c.args.deep (first_and_rest _ _ some form)
+    c.elt_in.ensures ∙ at_front c.args.name.now c.args.deep (first_and_rest _ _ some form)
 
-pub term-in-returns-in-3 : goal.term-in-returns-in-3
-term-in-returns-in-3 t c =
+pub term_in-returns-in-3 : goal.term_in-returns-in-3
+term_in-returns-in-3 t c =
     let some : 0 < length c.args.bytes.now = search rules in
     let form : get_or c.args.bytes.now 0 0 ≡ 3 = search rules in
-    c.prefix-in.ensures ∙ at_front c.args.name.now c.args.deep (first_and_rest _ _ some form)
+    c.prefix_in.ensures ∙ at_front c.args.name.now c.args.deep (first_and_rest _ _ some form)
 
-pub term-in-returns-in-4 : goal.term-in-returns-in-4
-term-in-returns-in-4 t c =
+pub term_in-returns-in-4 : goal.term_in-returns-in-4
+term_in-returns-in-4 t c =
     let some : 0 < length c.args.bytes.now = search rules in
     let form : get_or c.args.bytes.now 0 0 ≡ 4 = search rules in
-    c.range-in.ensures ∙ at_front c.args.name.now c.args.deep (first_and_rest _ _ some form)
+    c.range_in.ensures ∙ at_front c.args.name.now c.args.deep (first_and_rest _ _ some form)
 
-pub term-in-returns-in-5 : goal.term-in-returns-in-5
-term-in-returns-in-5 t c =
+pub term_in-returns-in-5 : goal.term_in-returns-in-5
+term_in-returns-in-5 t c =
     let some : 0 < length c.args.bytes.now = search rules in
     let form : get_or c.args.bytes.now 0 0 ≡ 5 = search rules in
-    c.set-in.ensures ∙ at_front c.args.name.now c.args.deep (first_and_rest _ _ some form)
+    c.set_in.ensures ∙ at_front c.args.name.now c.args.deep (first_and_rest _ _ some form)
 
-pub term-in-returns-in-default : goal.term-in-returns-in-default
-term-in-returns-in-default t c =
+pub term_in-returns-in-default : goal.term_in-returns-in-default
+term_in-returns-in-default t c =
     elim c.in-default.branch [
-      | term-in-in-default-via-then-bytes-lt1 w ↦ no_term c.args.name.now c.args.bytes.now c.args.deep (λ some. absurd (search rules))
-      | term-in-in-default-via-else-bytes-lt1+in-default· w ↦ no_term c.args.name.now c.args.bytes.now c.args.deep (λ some. (λ all. search rules, λ elt. search rules, λ prefix. search rules, λ range. search rules, λ set. search rules))
+      | term_in-in-default-via-then-bytes-lt1 w ↦ no_term c.args.name.now c.args.bytes.now c.args.deep (λ some. absurd (search rules))
+      | term_in-in-default-via-else-bytes-lt1+in-default· w ↦ no_term c.args.name.now c.args.bytes.now c.args.deep (λ some. (λ all. search rules, λ elt. search rules, λ prefix. search rules, λ range. search rules, λ set. search rules))
     ]
 
-pub set-in-returns-in-err-n : goal.set-in-returns-in-err-n
-set-in-returns-in-err-n t c = simp c.from-residual.ensures (no_set c.args.name.now c.args.deep c.args.bytes.now c.in-err-n.ensures)
+pub set_in-returns-in-err-n : goal.set_in-returns-in-err-n
+set_in-returns-in-err-n t c = simp c.from-residual.ensures (no_set c.args.name.now c.args.deep c.args.bytes.now c.in-err-n.ensures)
 
-pub set-in-returns : goal.set-in-returns
-set-in-returns t c = c.members-in.ensures ∙ a_set c.args.name.now c.args.deep _ c.args.bytes.now _ c.in-ok-n.ensures
+pub set_in-returns : goal.set_in-returns
+set_in-returns t c = c.members_in.ensures ∙ a_set c.args.name.now c.args.deep _ c.args.bytes.now _ c.in-ok-n.ensures
 
-pub members-in-returns-in-err-count : goal.members-in-returns-in-err-count
-members-in-returns-in-err-count t c =
+pub members_in-returns-in-err-count : goal.members_in-returns-in-err-count
+members_in-returns-in-err-count t c =
     let some : 0 < length c.loop-left.rest.now = search rules in
     let form : get_or c.loop-left.rest.now 0 0 ≡ 5 = search rules in
     let last : c.loop-left.left ≡ 1 = search rules in
@@ -62,8 +62,8 @@ members-in-returns-in-err-count t c =
     (no_members_of_the_last c.args.name.now c.loop-left.deep c.loop-left.rest.now _ (first_and_rest _ _ some form) c.loop-left.any c.loop-left.left last c.in-err-count.ensures
     ∙ c.loop-left.invariant.1)
 
-pub members-in-loop-left-preserved-then-left-eq1 : goal.members-in-loop-left-preserved-then-left-eq1
-members-in-loop-left-preserved-then-left-eq1 t c =
+pub members_in-loop-left-preserved-then-left-eq1 : goal.members_in-loop-left-preserved-then-left-eq1
+members_in-loop-left-preserved-then-left-eq1 t c =
     let some : 0 < length c.loop-left.rest.now = search rules in
     let form : get_or c.loop-left.rest.now 0 0 ≡ 5 = search rules in
     let last : c.loop-left.left ≡ 1 = search rules in (
@@ -73,15 +73,15 @@ members-in-loop-left-preserved-then-left-eq1 t c =
           ∙ c.loop-left.invariant.1,
     )
 
-pub members-in-returns-in-err-covers : goal.members-in-returns-in-err-covers
-members-in-returns-in-err-covers t c =
+pub members_in-returns-in-err-covers : goal.members_in-returns-in-err-covers
+members_in-returns-in-err-covers t c =
     let some_left : 0 < c.loop-left.left = search rules in
     simp c.from-residual-in-err-covers.ensures
     (no_members_without_first (term_in c.loop-left.deep) c.args.name.now c.loop-left.any c.loop-left.left c.loop-left.rest.now some_left c.in-err-covers.ensures
     ∙ c.loop-left.invariant.1)
 
-pub members-in-loop-left-preserved : goal.members-in-loop-left-preserved
-members-in-loop-left-preserved t c =
+pub members_in-loop-left-preserved : goal.members_in-loop-left-preserved
+members_in-loop-left-preserved t c =
     let some_left : 0 < c.loop-left.left = search rules in (
       c.loop-left.invariant.0,
       ap₂ (λ any. members_left (term_in c.loop-left.deep) c.args.name.now any (c.loop-left.left - 1)) c.either-any.ensures (take_rest c.in-ok-covers.after.now 0)

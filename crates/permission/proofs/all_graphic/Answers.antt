@@ -14,8 +14,8 @@ and_true false = refl
 pub loop-byte-preserved : goal.loop-byte-preserved
 loop-byte-preserved c =
     let left : Bool = all_graphic (drop (c.loop-byte.byte-index + 1) c.args.bytes.now) in
-    and_in_turn c.loop-byte.all c.is-graphic-all.result left
-    ∙ ap (λ b. c.loop-byte.all && (b && left)) c.is-graphic-all.ensures
+    and_in_turn c.loop-byte.all c.is_graphic-all.result left
+    ∙ ap (λ b. c.loop-byte.all && (b && left)) c.is_graphic-all.ensures
     ∙ ap (λ b. c.loop-byte.all && b) (sym (at_drop_more all_graphic c.args.bytes.now c.loop-byte.byte-index 0 c.loop-byte-test.true))
     ∙ c.loop-byte.invariant
 

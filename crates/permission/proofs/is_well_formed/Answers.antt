@@ -8,9 +8,9 @@ use Rattle.permission.proofs.is_well_formed.Goals as goal
 
 pub returns : goal.returns
 returns c =
-    let defined : c.is-some.result ≡ well_formed c.args.term.now = c.is-some.ensures ∙ ap is_some c.whole.ensures ∙ judged_at_all c.args.term.now [] in
+    let defined : c.is_some.result ≡ well_formed c.args.term.now = c.is_some.ensures ∙ ap is_some c.whole.ensures ∙ judged_at_all c.args.term.now [] in
     record {
       as_defined = defined;
-      yes-exactly-for-a-well-formed-term = Decides-at c.is-some.result (well_formed c.args.term.now) defined (well_formed_decides c.args.term.now);
-      bytes-encode-at-most-one-term = one_term_at_most c.args.term.now;
+      yes_exactly_for_a_well_formed_term = Decides-at c.is_some.result (well_formed c.args.term.now) defined (well_formed_decides c.args.term.now);
+      bytes_encode_at_most_one_term = one_term_at_most c.args.term.now;
     }

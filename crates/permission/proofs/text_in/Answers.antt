@@ -14,13 +14,13 @@ returns-then-n-gt-MAX-TEXT c =
     let some : 0 < length c.args.bytes.now = search rules in
     no_text_past_the_end c.args.bytes.now _ _ (first_and_rest c.args.bytes.now _ some refl) (λ short within. search rules)
 
-pub returns-then-not-all-graphic : goal.returns-then-not-all-graphic
-returns-then-not-all-graphic c =
+pub returns-then-not-all_graphic : goal.returns-then-not-all_graphic
+returns-then-not-all_graphic c =
     let some : 0 < length c.args.bytes.now = search rules in
-    no_text_of_other_bytes c.args.bytes.now _ _ (first_and_rest c.args.bytes.now _ some refl) (c.if-not-all-graphic.ensures ∙ ap all_graphic c.split-at.ensures.front)
+    no_text_of_other_bytes c.args.bytes.now _ _ (first_and_rest c.args.bytes.now _ some refl) (c.if-not-all_graphic.ensures ∙ ap all_graphic c.split_at.ensures.front)
 
 pub returns : goal.returns
 returns c =
     let some : 0 < length c.args.bytes.now = search rules in
-    simp (c.split-at.ensures.front, c.split-at.ensures.back)
-    (a_text c.args.bytes.now _ _ (first_and_rest c.args.bytes.now _ some refl) (search rules) (search rules) (c.if-not-all-graphic.ensures ∙ ap all_graphic c.split-at.ensures.front))
+    simp (c.split_at.ensures.front, c.split_at.ensures.back)
+    (a_text c.args.bytes.now _ _ (first_and_rest c.args.bytes.now _ some refl) (search rules) (search rules) (c.if-not-all_graphic.ensures ∙ ap all_graphic c.split_at.ensures.front))

@@ -15,4 +15,4 @@ over_zeros key written is less short =
 pub returns : goal.returns
 returns c =
     let short : leb (length c.args.bytes.now) 20 ≡ true = grind (arith, nat_tests) in
-    over_zeros c.args.bytes.now c.copy-from-slice.new.self c.copy-from-slice.ensures.after (omega arith) short
+    over_zeros c.args.bytes.now c.copy_from_slice.new.self c.copy_from_slice.ensures.after (omega arith) short

@@ -10,5 +10,5 @@ returns-then-bytes-width c = search rules
 pub returns : goal.returns
 returns c =
     c.caching.ensures
-    ∙ ap₂ caching_of c.split-at.ensures.front c.split-at.ensures.back
+    ∙ ap₂ caching_of c.split_at.ensures.front c.split_at.ensures.back
     ∙ sym (certificate_and_tag c.args.width c.args.bytes.now (search rules))

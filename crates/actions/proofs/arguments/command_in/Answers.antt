@@ -17,5 +17,5 @@ returns c =
     let some : 0 < length c.args.bytes.now = search rules in
     let first : get_or c.args.bytes.now 0 0 ≡ c.from-n.result = search rules in
     c.performing.ensures
-    ∙ ap₂ performing_of c.split-at.ensures.front c.split-at.ensures.back
+    ∙ ap₂ performing_of c.split_at.ensures.front c.split_at.ensures.back
     ∙ sym (name_and_payload c.args.bytes.now c.from-n.result _ (first_and_rest c.args.bytes.now c.from-n.result some first) (search rules))

@@ -6,14 +6,14 @@ use Rattle.delegation.specs.Marks.{any_leading}
 use Rattle.delegation.proofs.Walks.{leading_is_here, leading_is_past, leading_is_over}
 use Rattle.delegation.proofs.chain.begins.Goals as goal
 
-pub returns-then-is-beginning : goal.returns-then-is-beginning
-returns-then-is-beginning c =
-    sym (leading_is_here (λ x. may_begin (listed c.args.owners.now c.args.entries.now []) c.args.clock c.args.name.now x.issuer) c.args.links.now c.args.marks.now c.loop-i.i _ _ c.loop-i-test.true (omega arith) (sym c.if-is-beginning.ensures))
+pub returns-then-is_beginning : goal.returns-then-is_beginning
+returns-then-is_beginning c =
+    sym (leading_is_here (λ x. may_begin (listed c.args.owners.now c.args.entries.now []) c.args.clock c.args.name.now x.issuer) c.args.links.now c.args.marks.now c.loop-i.i _ _ c.loop-i-test.true (omega arith) (sym c.if-is_beginning.ensures))
     ∙ c.loop-i.invariant
 
 pub loop-i-preserved : goal.loop-i-preserved
 loop-i-preserved c =
-    sym (leading_is_past (λ x. may_begin (listed c.args.owners.now c.args.entries.now []) c.args.clock c.args.name.now x.issuer) c.args.links.now c.args.marks.now c.loop-i.i _ _ c.loop-i-test.true (omega arith) (sym c.if-is-beginning.ensures))
+    sym (leading_is_past (λ x. may_begin (listed c.args.owners.now c.args.entries.now []) c.args.clock c.args.name.now x.issuer) c.args.links.now c.args.marks.now c.loop-i.i _ _ c.loop-i-test.true (omega arith) (sym c.if-is_beginning.ensures))
     ∙ c.loop-i.invariant
 
 pub returns : goal.returns

@@ -5,14 +5,14 @@ use Rattle.std.specs.Str.{bytes_eq}
 use Rattle.delegation.proofs.Walks.{any_is_here, any_is_past}
 use Rattle.delegation.proofs.roots.is_owner.Goals as goal
 
-pub returns-then-is-same : goal.returns-then-is-same
-returns-then-is-same c =
-    sym (any_is_here (λ o. bytes_eq o c.args.hash.now) c.args.owners.now c.loop-owner.owner-index _ c.loop-owner-test.true (sym c.if-is-same.ensures))
+pub returns-then-is_same : goal.returns-then-is_same
+returns-then-is_same c =
+    sym (any_is_here (λ o. bytes_eq o c.args.hash.now) c.args.owners.now c.loop-owner.owner-index _ c.loop-owner-test.true (sym c.if-is_same.ensures))
     ∙ c.loop-owner.invariant
 
 pub loop-owner-preserved : goal.loop-owner-preserved
 loop-owner-preserved c =
-    sym (any_is_past (λ o. bytes_eq o c.args.hash.now) c.args.owners.now c.loop-owner.owner-index _ c.loop-owner-test.true (sym c.if-is-same.ensures))
+    sym (any_is_past (λ o. bytes_eq o c.args.hash.now) c.args.owners.now c.loop-owner.owner-index _ c.loop-owner-test.true (sym c.if-is_same.ensures))
     ∙ c.loop-owner.invariant
 
 pub returns : goal.returns

@@ -10,5 +10,5 @@ use Rattle.guard.proofs.Finding.{removed_is_without}
 pub returns : goal.returns
 returns c =
     c.remove.ensures.after
-    ∙ (ap (λ z. removed_found (opened c.args.sessions.now) (position (named name_of same_name z) (opened c.args.sessions.now))) c.session-name.ensures
+    ∙ (ap (λ z. removed_found (opened c.args.sessions.now) (position (named name_of same_name z) (opened c.args.sessions.now))) c.session_name.ensures
     ∙ removed_is_without (signs (signed_by c.args.request.now)) (opened c.args.sessions.now))

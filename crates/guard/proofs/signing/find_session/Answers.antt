@@ -5,10 +5,10 @@ use Rattle.guard.proofs.signing.find_session.Goals as goal
 use Rattle.guard.proofs.Finding.{none_found, none_there, one_there}
 
 pub returns-in-default : goal.returns-in-default
-returns-in-default c = none_found c.session-name.result _ (opened c.args.sessions.now) c.session-name.ensures c.in-default.ensures.position
+returns-in-default c = none_found c.session_name.result _ (opened c.args.sessions.now) c.session_name.ensures c.in-default.ensures.position
 
 pub returns-in-default-get : goal.returns-in-default-get
-returns-in-default-get c = none_there c.session-name.result _ (opened c.args.sessions.now) c.session-name.ensures c.in-Some.i c.in-Some.ensures.position c.in-default-get.ensures.place
+returns-in-default-get c = none_there c.session_name.result _ (opened c.args.sessions.now) c.session_name.ensures c.in-Some.i c.in-Some.ensures.position c.in-default-get.ensures.place
 
 pub returns : goal.returns
-returns c = one_there c.session-name.result _ (opened c.args.sessions.now) c.session-name.ensures c.in-Some.i c.in-Some-get.session.now c.in-Some.ensures.position c.in-Some-get.ensures.place
+returns c = one_there c.session_name.result _ (opened c.args.sessions.now) c.session_name.ensures c.in-Some.i c.in-Some-get.session.now c.in-Some.ensures.position c.in-Some-get.ensures.place

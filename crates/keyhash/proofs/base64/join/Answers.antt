@@ -10,9 +10,9 @@ loop-i-preserved c =
     let d = c.args.digits in
     let more =
     join_group (3 * i) (3 * (i + 1)) (number_from_digits 64 (take (4 * i) d)) (3 * i + 3 - 3 * i) (get_or d (4 * i) 0) (get_or d (4 * i + 1) 0) (get_or d (4 * i + 2) 0) (get_or d (4 * i + 3) 0)
-    c.copy-from-slice.new.self c.loop-i.out (omega arith) (omega arith) (omega arith)
+    c.copy_from_slice.new.self c.loop-i.out (omega arith) (omega arith) (omega arith)
     (c.requires (4 * i) (omega arith)) (c.requires (4 * i + 1) (omega arith)) (c.requires (4 * i + 2) (omega arith)) (c.requires (4 * i + 3) (omega arith))
-    (c.copy-from-slice.ensures.after ∙ c.three-bytes-group.ensures) c.loop-i.invariant in
+    (c.copy_from_slice.ensures.after ∙ c.three_bytes-group.ensures) c.loop-i.invariant in
     let one = number_next 64 d (4 * i) (4 * i + 1) (omega arith) refl refl in
     let two = number_next 64 d (4 * i + 1) (4 * i + 2) (omega arith) (omega arith) one in
     let three = number_next 64 d (4 * i + 2) (4 * i + 3) (omega arith) (omega arith) two in
@@ -24,4 +24,4 @@ returns c =
     let seven : c.loop-i.i ≡ 7 = omega arith in
     let done = subst (λ (i : ℕ). Written 256 21 (3 * i) (number_from_digits 64 (take (4 * i) c.args.digits)) c.loop-i.out) seven c.loop-i.invariant in
     let written = join_last c.args.digits c.loop-i.out (omega arith) (c.requires 27 (omega arith)) done in
-    c.copy-from-slice-2.ensures.after ∙ written_digits 256 21 20 _ _ (omega arith) written
+    c.copy_from_slice-2.ensures.after ∙ written_digits 256 21 20 _ _ (omega arith) written

@@ -8,5 +8,5 @@ pub returns : goal.returns
 returns c =
     record {
       tag = c.hmac.ensures.authenticates;
-      other-lengths-never-stand = λ key text tag other. other_length_differs (hmac_of key text) tag (λ e. other (e ∙ a_digest_has_20_bytes _));
+      other_lengths_never_stand = λ key text tag other. other_length_differs (hmac_of key text) tag (λ e. other (e ∙ a_digest_has_20_bytes _));
     }

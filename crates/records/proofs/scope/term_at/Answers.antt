@@ -5,4 +5,4 @@ use Rattle.records.proofs.scope.term_at.Goals as goal
 pub returns : goal.returns
 returns c =
     let rest : length (drop 18 c.args.bytes.now) ≤ 48 = simp length-drop (omega (arith, c.requires)) in
-    c.copy-from-slice.ensures.after ∙ take_all 48 (drop 18 c.args.bytes.now) rest
+    c.copy_from_slice.ensures.after ∙ take_all 48 (drop 18 c.args.bytes.now) rest

@@ -9,25 +9,25 @@ use Rattle.requests.proofs.Fields.{no_header, no_action, no_arguments, all_read,
 pub returns-in-default : goal.returns-in-default
 returns-in-default g c = record { as_defined = no_header g.V.Verifier.width g.P.Verifier.width c.args.bytes.now c.in-default.field-0 c.in-default.ensures.as_defined }
 
-pub returns-in-default-from-code : goal.returns-in-default-from-code
-returns-in-default-from-code g c = record {
+pub returns-in-default-from_code : goal.returns-in-default-from_code
+returns-in-default-from_code g c = record {
   as_defined = no_action g.V.Verifier.width g.P.Verifier.width c.args.bytes.now (header c.in-Ok.envelope) c.in-Ok.ensures.as_defined
-      (c.in-default-from-code.ensures.as_defined ∙ ap action_of c.action-code.ensures);
+      (c.in-default-from_code.ensures.as_defined ∙ ap action_of c.action_code.ensures);
 }
 
 pub returns-in-default-read : goal.returns-in-default-read
 returns-in-default-read g c = record {
   as_defined = no_arguments g.V.Verifier.width g.P.Verifier.width c.args.bytes.now (header c.in-Ok.envelope) c.in-Some.action c.in-default-read.field-0 c.in-Ok.ensures.as_defined
-      (c.in-Some.ensures.as_defined ∙ ap action_of c.action-code.ensures)
+      (c.in-Some.ensures.as_defined ∙ ap action_of c.action_code.ensures)
       (c.in-default-read.ensures.as_defined ∙ ap (λ z. arguments_in g.V.Verifier.width g.P.Verifier.width c.in-Some.action z.bytes) c.arguments.ensures);
 }
 
 pub returns : goal.returns
 returns g c =
     let whole = all_read g.V.Verifier.width g.P.Verifier.width c.args.bytes.now (header c.in-Ok.envelope) c.in-Some.action (saying c.in-Ok-read.arguments) c.in-Ok.ensures.as_defined
-    (c.in-Some.ensures.as_defined ∙ ap action_of c.action-code.ensures)
+    (c.in-Some.ensures.as_defined ∙ ap action_of c.action_code.ensures)
     (c.in-Ok-read.ensures.as_defined ∙ ap (λ z. arguments_in g.V.Verifier.width g.P.Verifier.width c.in-Some.action z.bytes) c.arguments.ensures) in
     record {
-      as_defined = field_by_field (header c.in-Ok.envelope) (saying c.in-Ok-read.arguments) _ c.kind.ensures c.control-number.ensures c.key-number.ensures c.sequence-number.ensures c.signer.ensures
-          (ap (λ z. z.bytes) c.signed-text.ensures) (ap (λ z. z.bytes) c.tag.ensures) whole;
+      as_defined = field_by_field (header c.in-Ok.envelope) (saying c.in-Ok-read.arguments) _ c.kind.ensures c.control_number.ensures c.key_number.ensures c.sequence_number.ensures c.signer.ensures
+          (ap (λ z. z.bytes) c.signed_text.ensures) (ap (λ z. z.bytes) c.tag.ensures) whole;
     }

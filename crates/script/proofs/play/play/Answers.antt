@@ -10,13 +10,13 @@ use Rattle.script.proofs.play.play.Goals as goal
 pub loop-rest-smaller : goal.loop-rest-smaller
 loop-rest-smaller c =
     let some = some_left c.loop-rest.rest.now c.loop-rest-test.ensures in
-    subst (λ xs. length xs < length c.loop-rest.rest.now) (sym c.split-once.ensures.after-the-first) (after_shorter c.loop-rest.rest.now some)
+    subst (λ xs. length xs < length c.loop-rest.rest.now) (sym c.split_once.ensures.after_the_first) (after_shorter c.loop-rest.rest.now some)
 
 pub loop-rest-preserved : goal.loop-rest-preserved
 loop-rest-preserved c =
     let some = some_left c.loop-rest.rest.now c.loop-rest-test.ensures in
-    let cut-Line = c.split-once.ensures.before-the-first in
-    let cut-next = c.split-once.ensures.after-the-first in
+    let cut-Line = c.split_once.ensures.before_the_first in
+    let cut-next = c.split_once.ensures.after_the_first in
     let answered = c.in-ok-answer.ensures in
     let shorter = after_shorter c.loop-rest.rest.now some in
     let same = ap length cut-next in (
@@ -29,9 +29,9 @@ pub returns : goal.returns
 returns c =
     let none = none_left c.loop-rest.rest.now c.loop-rest-test.ensures in
     record {
-      one-line-for-each-statement =
+      one_line_for_each_statement =
           sym (append-nil (vec_items c.loop-rest.session.output))
           ∙ ap (λ xs. vec_items c.loop-rest.session.output ++ shown c.loop-rest.number (lines_of xs)) (sym none)
           ∙ c.loop-rest.invariant.1;
-      each-answer-noted = ap (λ xs. tallied (tally c.loop-rest.session.account) (lines_of xs)) (sym none) ∙ c.loop-rest.invariant.2;
+      each_answer_noted = ap (λ xs. tallied (tally c.loop-rest.session.account) (lines_of xs)) (sym none) ∙ c.loop-rest.invariant.2;
     }

@@ -9,5 +9,5 @@ pub returns : goal.returns
 unfolding reply_to_line
 returns c =
     IfOk-weaker c.evaluate.result (λ o. o ≡ reply_to (said c.parse.result)) (λ o. o ≡ reply_to_line c.args.text.now)
-    (λ o e. e ∙ ap reply_to (c.parse.ensures.says-what-the-line-says ∙ ap says c.trim.ensures.without-carriage-return))
-    c.evaluate.ensures.answer-as-defined
+    (λ o e. e ∙ ap reply_to (c.parse.ensures.says_what_the_line_says ∙ ap says c.trim.ensures.without_carriage_return))
+    c.evaluate.ensures.answer_as_defined

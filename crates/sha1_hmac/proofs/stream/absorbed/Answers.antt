@@ -2,4 +2,4 @@ use Rattle.std.proofs.Common.{[]}
 use Rattle.sha1_hmac.proofs.stream.absorbed.Goals as goal
 
 pub returns : goal.returns
-returns c = c.update.ensures.absorbs [] c.new-state.ensures.absorbed-nothing
+returns c = c.update.ensures.absorbs [] c.new-state.ensures.absorbed_nothing

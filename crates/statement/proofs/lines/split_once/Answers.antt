@@ -10,7 +10,7 @@ returns-then-c-separator c =
     let i = c.loop-i.i in
     let ends = part_ends c.args.separator c.args.bytes.now c.loop-i.i (omega arith) c.if-c-separator.true in
     let first : take c.loop-i.i c.args.bytes.now ≡ before c.args.separator c.args.bytes.now = sym (append-nil (take i line)) ∙ ap (λ xs. take i line ++ xs) (sym ends.0) ∙ c.loop-i.invariant.0 in
-    record { before-the-first = search rules; after-the-first = take_rest line (i + 1) ∙ sym ends.1 ∙ c.loop-i.invariant.1 }
+    record { before_the_first = search rules; after_the_first = take_rest line (i + 1) ∙ sym ends.1 ∙ c.loop-i.invariant.1 }
 
 pub loop-i-preserved : goal.loop-i-preserved
 loop-i-preserved c =
@@ -22,6 +22,6 @@ returns c =
     let line = c.args.bytes.now in
     let i = c.loop-i.i in
     record {
-      before-the-first = sym (append-nil line) ∙ ap (λ xs. xs ++ before c.args.separator []) (sym (take_all i line (omega arith))) ∙ ap (λ xs. take i line ++ xs) (sym (at_drop_all (before c.args.separator) line i (omega arith))) ∙ c.loop-i.invariant.0;
-      after-the-first = sym (at_drop_all (after c.args.separator) line i (omega arith)) ∙ c.loop-i.invariant.1;
+      before_the_first = sym (append-nil line) ∙ ap (λ xs. xs ++ before c.args.separator []) (sym (take_all i line (omega arith))) ∙ ap (λ xs. take i line ++ xs) (sym (at_drop_all (before c.args.separator) line i (omega arith))) ∙ c.loop-i.invariant.0;
+      after_the_first = sym (at_drop_all (after c.args.separator) line i (omega arith)) ∙ c.loop-i.invariant.1;
     }

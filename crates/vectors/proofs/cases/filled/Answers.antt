@@ -8,4 +8,4 @@ written_over key front n e l =
     ap (λ f. f ++ drop n (replicate 20 0)) e ∙ ap (λ k. key ++ drop k (replicate 20 0)) l ∙ ap (λ zs. key ++ zs) (drop-replicate (length key) 20 0)
 
 pub returns : goal.returns
-returns c = written_over c.args.key.now _ (length c.args.key.now - 0) c.copy-from-slice.ensures.after (omega arith)
+returns c = written_over c.args.key.now _ (length c.args.key.now - 0) c.copy_from_slice.ensures.after (omega arith)

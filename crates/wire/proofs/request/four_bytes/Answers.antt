@@ -5,4 +5,4 @@ use Rattle.wire.proofs.request.four_bytes.Goals as goal
 
 pub returns : goal.returns
 unfolding big_endian
-returns c = record { bytes = c.to-be-bytes.ensures ∙ simp div-div-eq-div-mul; fits = search rules }
+returns c = record { bytes = c.to_be_bytes.ensures ∙ simp div-div-eq-div-mul; fits = search rules }

@@ -7,7 +7,7 @@ use Rattle.guard.proofs.types.Guard.act.Goals as goal
 
 pub returns-in-AddAclEntry : goal.returns-in-AddAclEntry
 returns-in-AddAclEntry g c = record {
-  answer = c.add-entry.ensures.answer
+  answer = c.add_entry.ensures.answer
       ∙ sym (ap (λ z. decided (alone c.args.self.now) (presenting (signed_by c.args.request.now) 0 c.args.clock (meaning g.V.Verifier.width (g.V.Verifier.stands c.args.session.now)) (meaning g.P.Verifier.width (g.P.Verifier.stands c.args.public.now)))
       (taken_of (g.S.Service.verdict c.args.service.now) (command_asked c.args.clock (saying z))) (saying z)) c.in-AddAclEntry.is);
   tables = search rules;

@@ -11,29 +11,29 @@ returns-in-Err g c =
     let ms = meaning g.V.Verifier.width (g.V.Verifier.stands c.args.session.now) in
     let mp = meaning g.P.Verifier.width (g.P.Verifier.stands c.args.public.now) in
     let step = refused_unread c.args.self.now (g.S.Service.done c.args.service.now) (g.S.Service.last c.args.service.now) c.args.envelope.now c.args.control c.args.clock ms mp (g.S.Service.verdict c.args.service.now) c.in-Err.why c.in-Err.ensures.as_defined in
-    record { is-the-machines-step = step; lawful-after-every-history = lawful_on _ _ _ _ _ step; refusal-leaves-the-service-untouched = λ _. refl }
+    record { is_the_machines_step = step; lawful_after_every_history = lawful_on _ _ _ _ _ step; refusal_leaves_the_service_untouched = λ _. refl }
 
 pub returns-in-Err-screen : goal.returns-in-Err-screen
 returns-in-Err-screen g c =
     let ms = meaning g.V.Verifier.width (g.V.Verifier.stands c.args.session.now) in
     let mp = meaning g.P.Verifier.width (g.P.Verifier.stands c.args.public.now) in
     let step = refused_screened c.args.self.now (g.S.Service.done c.args.service.now) (g.S.Service.last c.args.service.now) c.args.envelope.now c.args.control c.args.clock ms mp (g.S.Service.verdict c.args.service.now)
-    (signed_by c.in-Ok.request) (saying c.in-Ok.request.arguments) c.kind-asked-kind.result c.in-Ok.ensures.as_defined c.kind-asked-kind.ensures c.in-Err-screen.why c.in-Err-screen.ensures.answer in
-    record { is-the-machines-step = step; lawful-after-every-history = lawful_on _ _ _ _ _ step; refusal-leaves-the-service-untouched = λ _. refl }
+    (signed_by c.in-Ok.request) (saying c.in-Ok.request.arguments) c.kind_asked-kind.result c.in-Ok.ensures.as_defined c.kind_asked-kind.ensures c.in-Err-screen.why c.in-Err-screen.ensures.answer in
+    record { is_the_machines_step = step; lawful_after_every_history = lawful_on _ _ _ _ _ step; refusal_leaves_the_service_untouched = λ _. refl }
 
 pub consume-requires : goal.consume-requires
 consume-requires g c =
     let ms = meaning g.V.Verifier.width (g.V.Verifier.stands c.args.session.now) in
     let mp = meaning g.P.Verifier.width (g.P.Verifier.stands c.args.public.now) in
     base_left c.args.self.now (g.S.Service.done c.args.service.now) (g.S.Service.last c.args.service.now) c.args.envelope.now c.args.control c.args.clock ms mp (g.S.Service.verdict c.args.service.now)
-    (signed_by c.in-Ok.request) (saying c.in-Ok.request.arguments) c.kind-asked-kind.result c.in-Ok.ensures.as_defined c.kind-asked-kind.ensures c.in-Ok-screen.ensures.answer
+    (signed_by c.in-Ok.request) (saying c.in-Ok.request.arguments) c.kind_asked-kind.result c.in-Ok.ensures.as_defined c.kind_asked-kind.ensures c.in-Ok-screen.ensures.answer
 
 pub returns : goal.returns
 returns g c =
     let ms = meaning g.V.Verifier.width (g.V.Verifier.stands c.args.session.now) in
     let mp = meaning g.P.Verifier.width (g.P.Verifier.stands c.args.public.now) in
     let step = delivered c.args.self.now (g.S.Service.done c.args.service.now) (g.S.Service.last c.args.service.now) c.args.envelope.now c.args.control c.args.clock ms mp (g.S.Service.verdict c.args.service.now)
-    (signed_by c.in-Ok.request) (saying c.in-Ok.request.arguments) c.kind-asked-kind.result c.in-Ok.ensures.as_defined c.kind-asked-kind.ensures c.in-Ok-screen.ensures.answer
-    c.consume.new.self c.in-Ok-screen.place c.in-Ok-screen.ensures.place c.consume.ensures.sessions c.consume.ensures.base c.consume.ensures.nothing-else
+    (signed_by c.in-Ok.request) (saying c.in-Ok.request.arguments) c.kind_asked-kind.result c.in-Ok.ensures.as_defined c.kind_asked-kind.ensures c.in-Ok-screen.ensures.answer
+    c.consume.new.self c.in-Ok-screen.place c.in-Ok-screen.ensures.place c.consume.ensures.sessions c.consume.ensures.base c.consume.ensures.nothing_else
     c.act.new.self c.act.result (g.S.Service.done c.act.new.service) (g.S.Service.last c.act.new.service) c.act.ensures.answer c.act.ensures.tables c.act.ensures.done c.act.ensures.last in
-    record { is-the-machines-step = step; lawful-after-every-history = lawful_on _ _ _ _ _ step; refusal-leaves-the-service-untouched = c.act.ensures.untouched }
+    record { is_the_machines_step = step; lawful_after_every_history = lawful_on _ _ _ _ _ step; refusal_leaves_the_service_untouched = c.act.ensures.untouched }

@@ -9,11 +9,11 @@ use Rattle.guard.proofs.Screens.{other_control, wrong_kind, passed_on, session_w
 pub returns-then-request-control : goal.returns-then-request-control
 returns-then-request-control g c = record { answer = other_control (alone c.args.self.now) _ c.args.kind c.if-request-control.true; place = λ _. tt }
 
-pub returns-then-not-is-kind : goal.returns-then-not-is-kind
-returns-then-not-is-kind g c = record { answer = wrong_kind (alone c.args.self.now) _ c.args.kind c.if-request-control.false c.if-not-is-kind.ensures; place = λ _. tt }
+pub returns-then-not-is_kind : goal.returns-then-not-is_kind
+returns-then-not-is_kind g c = record { answer = wrong_kind (alone c.args.self.now) _ c.args.kind c.if-request-control.false c.if-not-is_kind.ensures; place = λ _. tt }
 
 pub returns-in-Session : goal.returns-in-Session
-returns-in-Session g c = record { answer = passed_on (alone c.args.self.now) _ c.args.kind c.if-request-control.false c.if-not-is-kind.ensures _ (c.screen-session.ensures.answer ∙ session_way c.args.kind c.in-Session.is _ _); place = λ _. c.screen-session.ensures.place }
+returns-in-Session g c = record { answer = passed_on (alone c.args.self.now) _ c.args.kind c.if-request-control.false c.if-not-is_kind.ensures _ (c.screen_session.ensures.answer ∙ session_way c.args.kind c.in-Session.is _ _); place = λ _. c.screen_session.ensures.place }
 
 pub returns-in-Unmarked : goal.returns-in-Unmarked
-returns-in-Unmarked g c = record { answer = passed_on (alone c.args.self.now) _ c.args.kind c.if-request-control.false c.if-not-is-kind.ensures _ (c.screen-key.ensures ∙ key_way c.args.kind c.in-Unmarked.is _ _); place = λ b. absurd (true≢false (sym b ∙ no_session c.args.kind c.in-Unmarked.is)) }
+returns-in-Unmarked g c = record { answer = passed_on (alone c.args.self.now) _ c.args.kind c.if-request-control.false c.if-not-is_kind.ensures _ (c.screen_key.ensures ∙ key_way c.args.kind c.in-Unmarked.is _ _); place = λ b. absurd (true≢false (sym b ∙ no_session c.args.kind c.in-Unmarked.is)) }

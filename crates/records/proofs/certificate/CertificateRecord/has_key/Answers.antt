@@ -18,12 +18,12 @@ returns c =
     let devices : length a.device ≡ length b.device = search rules in
     record {
       same = search rules;
-      yes-exactly-where-all-bytes-are-equal = Decides-like _
+      yes_exactly_where_all_bytes_are_equal = Decides-like _
           (λ h. sym (certificate_bytes_are a) ∙ ap₂ (λ s t. s ++ t) h.0.0.0 (ap₂ (λ s t. s ++ t) h.0.0.1 (ap₂ (λ s t. s ++ t) h.0.1 h.1)) ∙ certificate_bytes_are b)
           (λ e.
           let first = same_parts a.issuer (a.subject ++ (a.device ++ scope_bytes a.scope)) b.issuer (b.subject ++ (b.device ++ scope_bytes b.scope)) issuers (certificate_bytes_are a ∙ e ∙ sym (certificate_bytes_are b)) in
           let second = same_parts a.subject (a.device ++ scope_bytes a.scope) b.subject (b.device ++ scope_bytes b.scope) subjects first.1 in
           let third = same_parts a.device (scope_bytes a.scope) b.device (scope_bytes b.scope) devices second.1 in
           (((first.0, second.0), third.0), third.1))
-          (Decides-and _ _ (Decides-and _ _ (Decides-and _ _ (Decides-at _ _ c.has-key.ensures (bytes_eq-Decides a.issuer b.issuer)) (Decides-at _ _ c.has-key-2.ensures (bytes_eq-Decides a.subject b.subject))) (Decides-at _ _ c.has-key-3.ensures (bytes_eq-Decides a.device b.device))) (same_scope_bytes_decides a.scope b.scope c.is-same.result c.is-same.ensures.windows-fit c.is-same.ensures.same));
+          (Decides-and _ _ (Decides-and _ _ (Decides-and _ _ (Decides-at _ _ c.has_key.ensures (bytes_eq-Decides a.issuer b.issuer)) (Decides-at _ _ c.has_key-2.ensures (bytes_eq-Decides a.subject b.subject))) (Decides-at _ _ c.has_key-3.ensures (bytes_eq-Decides a.device b.device))) (same_scope_bytes_decides a.scope b.scope c.is_same.result c.is_same.ensures.windows_fit c.is_same.ensures.same));
     }

@@ -16,8 +16,8 @@ returns c =
     let lengths : length a.subject ≡ length b.subject = search rules in
     record {
       same = search rules;
-      yes-exactly-where-all-bytes-are-equal = Decides-like _
+      yes_exactly_where_all_bytes_are_equal = Decides-like _
           (λ h. sym (entry_bytes_are a) ∙ ap₂ (λ s t. s ++ t) h.0 h.1 ∙ entry_bytes_are b)
           (λ e. same_parts a.subject (scope_bytes a.scope) b.subject (scope_bytes b.scope) lengths (entry_bytes_are a ∙ e ∙ sym (entry_bytes_are b)))
-          (Decides-and _ _ (Decides-at _ _ c.has-key.ensures (bytes_eq-Decides a.subject b.subject)) (same_scope_bytes_decides a.scope b.scope c.is-same.result c.is-same.ensures.windows-fit c.is-same.ensures.same));
+          (Decides-and _ _ (Decides-at _ _ c.has_key.ensures (bytes_eq-Decides a.subject b.subject)) (same_scope_bytes_decides a.scope b.scope c.is_same.result c.is_same.ensures.windows_fit c.is_same.ensures.same));
     }

@@ -5,12 +5,12 @@ use Rattle.records.proofs.types.Certificate.read.Goals as goal
 
 pub returns-then-bytes-ne-LENGTH : goal.returns-then-bytes-ne-LENGTH
 unfolding certificate_in
-returns-then-bytes-ne-LENGTH c = record { as_defined = search rules; reading-and-writing-are-inverse = certificates_inverse }
+returns-then-bytes-ne-LENGTH c = record { as_defined = search rules; reading_and_writing_are_inverse = certificates_inverse }
 
 pub returns-in-err-scope : goal.returns-in-err-scope
 unfolding certificate_in
-returns-in-err-scope c = record { as_defined = search rules; reading-and-writing-are-inverse = certificates_inverse }
+returns-in-err-scope c = record { as_defined = search rules; reading_and_writing_are_inverse = certificates_inverse }
 
 pub returns : goal.returns
 unfolding certificate_in
-returns c = record { as_defined = search rules; reading-and-writing-are-inverse = certificates_inverse }
+returns c = record { as_defined = search rules; reading_and_writing_are_inverse = certificates_inverse }

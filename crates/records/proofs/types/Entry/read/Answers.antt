@@ -5,12 +5,12 @@ use Rattle.records.proofs.types.Entry.read.Goals as goal
 
 pub returns-then-bytes-ne-LENGTH : goal.returns-then-bytes-ne-LENGTH
 unfolding entry_in
-returns-then-bytes-ne-LENGTH c = record { as_defined = search rules; reading-and-writing-are-inverse = entries_inverse }
+returns-then-bytes-ne-LENGTH c = record { as_defined = search rules; reading_and_writing_are_inverse = entries_inverse }
 
 pub returns-in-err-scope : goal.returns-in-err-scope
 unfolding entry_in
-returns-in-err-scope c = record { as_defined = search rules; reading-and-writing-are-inverse = entries_inverse }
+returns-in-err-scope c = record { as_defined = search rules; reading_and_writing_are_inverse = entries_inverse }
 
 pub returns : goal.returns
 unfolding entry_in
-returns c = record { as_defined = search rules; reading-and-writing-are-inverse = entries_inverse }
+returns c = record { as_defined = search rules; reading_and_writing_are_inverse = entries_inverse }

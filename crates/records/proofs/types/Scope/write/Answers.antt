@@ -14,8 +14,8 @@ unfolding scope_bytes
 returns c =
     let s = c.args.self.now in
     let one : take c.put-at.result c.put-at.new.out ≡ c.from.result ∷ [] = ap (λ n. take n c.put-at.new.out) c.put-at.ensures.end ∙ c.put-at.ensures.front in
-    let two = part_after c.put-at.new.out c.put-at-2.new.out c.number-bytes.result c.put-at.result c.put-at-2.result one c.put-at-2.ensures.end c.put-at-2.ensures.front in
-    let three = part_after c.put-at-2.new.out c.put-at-3.new.out c.number-bytes-2.result c.put-at-2.result c.put-at-3.result two c.put-at-3.ensures.end c.put-at-3.ensures.front in
+    let two = part_after c.put-at.new.out c.put-at-2.new.out c.number_bytes.result c.put-at.result c.put-at-2.result one c.put-at-2.ensures.end c.put-at-2.ensures.front in
+    let three = part_after c.put-at-2.new.out c.put-at-3.new.out c.number_bytes-2.result c.put-at-2.result c.put-at-3.result two c.put-at-3.ensures.end c.put-at-3.ensures.front in
     let four = part_after c.put-at-3.new.out c.put-at-4.new.out (s.term_length ∷ []) c.put-at-3.result c.put-at-4.result three c.put-at-4.ensures.end c.put-at-4.ensures.front in
     let five = part_after c.put-at-4.new.out c.put.new.out s.term c.put-at-4.result c.put.result four c.put.ensures.end c.put.ensures.front in
     let flag : c.from.result ≡ flag_byte s.delegate = c.from.ensures ∙ flag_byte_lem s.delegate in
@@ -23,9 +23,9 @@ returns c =
     record {
       as_defined = sym (take_all c.put.result c.put.new.out whole)
           ∙ five
-          ∙ five_in_a_row (c.from.result ∷ []) c.number-bytes.result c.number-bytes-2.result (s.term_length ∷ []) s.term
-          ∙ ap (λ b. b ∷ (c.number-bytes.result ++ (c.number-bytes-2.result ++ s.term_length ∷ s.term))) flag
-          ∙ ap (λ bs. flag_byte s.delegate ∷ (bs ++ (c.number-bytes-2.result ++ s.term_length ∷ s.term))) c.number-bytes.ensures.as_defined
-          ∙ ap (λ bs. flag_byte s.delegate ∷ (big_endian 8 s.not_before ++ (bs ++ s.term_length ∷ s.term))) c.number-bytes-2.ensures.as_defined;
-      fits = record { window = record { not_before = c.number-bytes.ensures.fits; not_after = c.number-bytes-2.ensures.fits }; term_length = c.put-at-4.ensures.bytes.0; term = (search rules, c.put.ensures.bytes) };
+          ∙ five_in_a_row (c.from.result ∷ []) c.number_bytes.result c.number_bytes-2.result (s.term_length ∷ []) s.term
+          ∙ ap (λ b. b ∷ (c.number_bytes.result ++ (c.number_bytes-2.result ++ s.term_length ∷ s.term))) flag
+          ∙ ap (λ bs. flag_byte s.delegate ∷ (bs ++ (c.number_bytes-2.result ++ s.term_length ∷ s.term))) c.number_bytes.ensures.as_defined
+          ∙ ap (λ bs. flag_byte s.delegate ∷ (big_endian 8 s.not_before ++ (bs ++ s.term_length ∷ s.term))) c.number_bytes-2.ensures.as_defined;
+      fits = record { window = record { not_before = c.number_bytes.ensures.fits; not_after = c.number_bytes-2.ensures.fits }; term_length = c.put-at-4.ensures.bytes.0; term = (search rules, c.put.ensures.bytes) };
     }

@@ -14,6 +14,6 @@ returns g c =
       front = ap (λ k. take k c.args.self.now.items) c.len.ensures.count ∙ take_of_length c.args.self.now.items (min c.args.self.now.len 16);
       reads = λ i d h. sym (get_or-take (min c.args.self.now.len 16) c.args.self.now.items i d (omega arith));
       in_place = λ i w. take_set_is_set_take (min c.args.self.now.len 16) c.args.self.now.items i w;
-      only-last = only_last_changes;
+      only_last = only_last_changes;
       past = λ i w h. sym (set_past (opened c.args.self.now) i w (omega arith));
     }

@@ -7,6 +7,6 @@ returns c =
     record {
       absorbs = λ m a.
           let t = a.total in
-          absorbed_blocks c.args.self.now _ m c.args.blocks.now a (omega arith) c.requires.whole c.work-in-all.ensures refl;
+          absorbed_blocks c.args.self.now _ m c.args.blocks.now a (omega arith) c.requires.whole c.work_in_all.ensures refl;
       counts = refl;
     }

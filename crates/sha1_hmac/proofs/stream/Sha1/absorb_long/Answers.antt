@@ -8,7 +8,7 @@ returns c =
     record {
       absorbs = λ m a.
           let begun = c.fill.ensures.absorbs m a in
-          let worked = c.absorb-blocks.ensures.absorbs _ begun in
+          let worked = c.absorb_blocks.ensures.absorbs _ begun in
           let done = c.fill-2.ensures.absorbs _ worked in
-          subst (Absorbed c.fill-2.new.self) (joined_parts m c.args.part.now _ _ _ _ c.split-at.ensures.by_index.0 c.split-at-2.ensures.by_index.0) done;
+          subst (Absorbed c.fill-2.new.self) (joined_parts m c.args.part.now _ _ _ _ c.split_at.ensures.by_index.0 c.split_at-2.ensures.by_index.0) done;
     }

@@ -8,7 +8,7 @@ returns-then-held-part-eq-BLOCK c =
       absorbs = λ m a.
           let t = a.total in
           let h : c.held-held.result ≡ length m % 64 = omega arith in
-          absorbed_full c.args.self.now _ m c.args.part.now a (omega arith) (search rules) c.work-in.ensures (rw h at c.put.ensures) refl;
+          absorbed_full c.args.self.now _ m c.args.part.now a (omega arith) (search rules) c.work_in.ensures (rw h at c.put.ensures) refl;
       counts = refl;
     }
 

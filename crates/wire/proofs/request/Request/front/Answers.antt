@@ -5,4 +5,4 @@ use Rattle.wire.proofs.request.Request.front.Goals as goal
 
 pub returns : goal.returns
 unfolding front_bytes big_endian
-returns c = record { bytes = search rules; action-fits = search rules; control-fits = search rules }
+returns c = record { bytes = search rules; action_fits = search rules; control_fits = search rules }

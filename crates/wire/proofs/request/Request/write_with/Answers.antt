@@ -20,7 +20,7 @@ pub returns : goal.returns
 returns c =
     let is = enough c.args.width (fields_of c.args.self.now) (length c.args.out.now) (omega arith) (omega arith) in
     record {
-      as_defined = ap Ok c.put-text.ensures.length ∙ sym is;
-      buffer = c.put-text.ensures.buffer ∙ sym (filled_with c.args.width (fields_of c.args.self.now) c.args.out.now (text_length (fields_of c.args.self.now)) is);
-      fields_fit = λ _. c.put-text.ensures.fields_fit;
+      as_defined = ap Ok c.put_text.ensures.length ∙ sym is;
+      buffer = c.put_text.ensures.buffer ∙ sym (filled_with c.args.width (fields_of c.args.self.now) c.args.out.now (text_length (fields_of c.args.self.now)) is);
+      fields_fit = λ _. c.put_text.ensures.fields_fit;
     }
