@@ -11,7 +11,7 @@ pub returns : goal.returns
 returns c =
     let hashes = c.args.hashes.now in
     let sorted = vec_items c.sort.new.self in
-    let copied = c.in-ok-sorted.ensures.items in
+    let copied = c.in_ok-sorted.ensures.items in
     let moved = subst (λ (xs : List (List ℕ)). IsPermutation xs (vec_items c.sort.new.self)) copied c.sort.ensures.permutation in
     let long = sym c.sort.new.self.ok.0 ∙ c.sort.ensures.len in
     let lists = sorted_repeats hashes sorted _ moved long (c.sort.ensures.sorted (lexical nat_cmp_total)) in

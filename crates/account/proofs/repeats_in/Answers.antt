@@ -6,7 +6,7 @@ use Rattle.std.proofs.lemmas.Bool.Decides.{not_from_Decides}
 use Rattle.account.specs.Repeats.{repeats_after}
 use Rattle.account.proofs.Repeated.{at_the_start, at_another, at_a_listed, at_a_second}
 use Rattle.account.proofs.repeats_in.Goals as goal
-use Rattle.account.proofs.repeats_in.Goals.{then-eq+then-not-listed+in-ok-push, then-eq+else-not-listed, else-eq}
+use Rattle.account.proofs.repeats_in.Goals.{then-eq+then-not-listed+in_ok-push, then-eq+else-not-listed, else-eq}
 
 pub loop-hash-init : goal.loop-hash-init
 loop-hash-init c =
@@ -18,9 +18,9 @@ loop-hash-preserved c =
     let rest = take (length c.args.sorted.now - 1) (drop 1 c.args.sorted.now) in
     let same = slice_eq-Decides c.loop-hash.current (get_or rest c.loop-hash.hash-index []) c.eq.result c.eq.ensures in
     elim c.if-eq.branch [
-      | then-eq+then-not-listed+in-ok-push w ↦
+      | then-eq+then-not-listed+in_ok-push w ↦
           at_a_second c.loop-hash.current c.loop-hash.listed rest c.loop-hash.hash-index c.loop-hash-test.true _ _ c.loop-hash.invariant _ _ _
-          (same.0 w.if-eq.true) w.if-not-listed.true (ap vec_items w.out-is ∙ pushed (c.loop-hash.current ∷ []) refl w.in-ok-push.was w.push.ensures.items) w.current-is w.listed-is
+          (same.0 w.if-eq.true) w.if-not-listed.true (ap vec_items w.out-is ∙ pushed (c.loop-hash.current ∷ []) refl w.in_ok-push.was w.push.ensures.items) w.current-is w.listed-is
       | then-eq+else-not-listed w ↦
           at_a_listed c.loop-hash.current c.loop-hash.listed rest c.loop-hash.hash-index c.loop-hash-test.true _ _ c.loop-hash.invariant _ _ _
           (same.0 w.if-eq.true) w.if-not-listed.false (ap vec_items w.out-is) w.current-is w.listed-is

@@ -33,7 +33,7 @@ loop-i-preserved c =
     let low : c.value_of-in-loop-i.result < 16 = subst (λ (d : ℕ). d < 16) (sym c.value_of-in-loop-i.ensures) (digits (2 * c.loop-i.i + 1) (omega arith)) in
     let byte = c.value_of.result * 16 + c.value_of-in-loop-i.result in
     let m = number_from_digits 16 (take (2 * i) (map hex_value hex)) in
-    pushed (byte ∷ []) c.loop-i.invariant c.in-ok-push.was c.push.ensures.items
+    pushed (byte ∷ []) c.loop-i.invariant c.in_ok-push.was c.push.ensures.items
     ∙ numeral_push i m byte (omega arith)
     ∙ ap (λ d. numeral 256 (i + 1) (m * 256 + (d * 16 + c.value_of-in-loop-i.result))) c.value_of.ensures
     ∙ ap (λ d. numeral 256 (i + 1) (m * 256 + (hex_value (get_or hex (2 * i) 0) * 16 + d))) c.value_of-in-loop-i.ensures

@@ -16,8 +16,8 @@ loop-b-preserved c =
     let i = c.loop-b.b-index in
     let old = vec_items c.args.out.now in
     let front = map hex_character (numeral 16 (2 * i) (number_from_digits 256 (take i c.args.bytes.now))) in
-    let one = pushed (c.character_of.result ∷ []) c.loop-b.invariant c.in-ok-push.was c.push.ensures.items in
-    let two = pushed (c.character_of-in-loop-b.result ∷ []) one c.in-ok-push-2.was c.push-in-loop-b.ensures.items in
+    let one = pushed (c.character_of.result ∷ []) c.loop-b.invariant c.in_ok-push.was c.push.ensures.items in
+    let two = pushed (c.character_of-in-loop-b.result ∷ []) one c.in_ok-push-2.was c.push-in-loop-b.ensures.items in
     two
     ∙ append_assoc (old ++ front) (c.character_of.result ∷ []) (c.character_of-in-loop-b.result ∷ [])
     ∙ append_assoc old front (c.character_of.result ∷ c.character_of-in-loop-b.result ∷ [])

@@ -4,10 +4,10 @@ use Rattle.permission.specs.Reading.{count_in}
 use Rattle.permission.proofs.Fronts.{first_and_rest}
 use Rattle.permission.proofs.Walks.{a_count, no_count, no_count_in_nothing}
 use Rattle.permission.proofs.count_in.Goals as goal
-use Rattle.permission.proofs.count_in.Goals.{then-deep-eq0-via-then-deep-eq0, then-deep-eq0-via-else-deep-eq0+then-n-gt-MAX-MEMBERS}
+use Rattle.permission.proofs.count_in.Goals.{then-deep-eq0-via-then-deep-eq0, then-deep-eq0-via-else-deep-eq0+then-n-gt-MAX_MEMBERS}
 
-pub returns-in-default : goal.returns-in-default
-returns-in-default c =
+pub returns-in_default : goal.returns-in_default
+returns-in_default c =
     let none : length c.args.bytes.now ≡ 0 = search rules in
     no_count_in_nothing c.args.deep ∙ sym (ap (count_in c.args.deep) (nil_from_length _ none))
 
@@ -17,7 +17,7 @@ returns-then-deep-eq0 c =
     no_count c.args.bytes.now _ _ (first_and_rest _ _ some refl) c.args.deep
     (elim c.then-deep-eq0.branch [
       | then-deep-eq0-via-then-deep-eq0 w ↦ λ nested few. search rules
-      | then-deep-eq0-via-else-deep-eq0+then-n-gt-MAX-MEMBERS w ↦ λ nested few. search rules
+      | then-deep-eq0-via-else-deep-eq0+then-n-gt-MAX_MEMBERS w ↦ λ nested few. search rules
     ])
 
 pub returns : goal.returns

@@ -5,12 +5,12 @@ use Rattle.permission.proofs.Fronts.{first_and_rest}
 use Rattle.permission.proofs.Texts.{no_text_past_the_end, no_text_of_other_bytes, a_text}
 use Rattle.permission.proofs.text_in.Goals as goal
 
-pub returns-in-default : goal.returns-in-default
+pub returns-in_default : goal.returns-in_default
 unfolding text_in
-returns-in-default c = let none : length c.args.bytes.now ≡ 0 = search rules in sym (ap text_in (nil_from_length _ none))
+returns-in_default c = let none : length c.args.bytes.now ≡ 0 = search rules in sym (ap text_in (nil_from_length _ none))
 
-pub returns-then-n-gt-MAX-TEXT : goal.returns-then-n-gt-MAX-TEXT
-returns-then-n-gt-MAX-TEXT c =
+pub returns-then-n-gt-MAX_TEXT : goal.returns-then-n-gt-MAX_TEXT
+returns-then-n-gt-MAX_TEXT c =
     let some : 0 < length c.args.bytes.now = search rules in
     no_text_past_the_end c.args.bytes.now _ _ (first_and_rest c.args.bytes.now _ some refl) (λ short within. search rules)
 

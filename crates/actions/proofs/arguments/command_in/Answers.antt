@@ -4,9 +4,9 @@ use Rattle.actions.specs.Arguments.{performing_of, perform_in}
 use Rattle.actions.proofs.Reading.{name_and_payload}
 use Rattle.actions.proofs.arguments.command_in.Goals as goal
 
-pub returns-in-default : goal.returns-in-default
+pub returns-in_default : goal.returns-in_default
 unfolding perform_in
-returns-in-default c = search rules
+returns-in_default c = search rules
 
 pub returns-then-n-rest : goal.returns-then-n-rest
 unfolding perform_in

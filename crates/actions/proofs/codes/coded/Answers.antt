@@ -43,6 +43,6 @@ pub returns-in-10 : goal.returns-in-10
 unfolding action_of
 returns-in-10 c = record { as_defined = search rules; one_code_for_each = one_code_for_each }
 
-pub returns-in-default : goal.returns-in-default
+pub returns-in_default : goal.returns-in_default
 unfolding action_of
-returns-in-default c = record { as_defined = search rules; one_code_for_each = one_code_for_each }
+returns-in_default c = record { as_defined = search rules; one_code_for_each = one_code_for_each }

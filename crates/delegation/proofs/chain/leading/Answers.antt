@@ -16,4 +16,4 @@ loop-i-preserved c =
     (sought_next c.args.links.now c.args.clock c.args.name.now c.args.signer.now c.loop-i.marks c.in-Some.i _ c.loop-i.invariant c.requires c.in-Some.ensures.0 c.in-Some.ensures.1)
 
 pub returns : goal.returns
-returns c = sought_tells c.args.links.now c.args.clock c.args.name.now c.args.signer.now c.loop-i.marks c.loop-i.invariant c.requires c.in-default.ensures
+returns c = sought_tells c.args.links.now c.args.clock c.args.name.now c.args.signer.now c.loop-i.marks c.loop-i.invariant c.requires c.in_default.ensures

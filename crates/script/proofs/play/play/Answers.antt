@@ -17,7 +17,7 @@ loop-rest-preserved c =
     let some = some_left c.loop-rest.rest.now c.loop-rest-test.ensures in
     let cut-Line = c.split_once.ensures.before_the_first in
     let cut-next = c.split_once.ensures.after_the_first in
-    let answered = c.in-ok-answer.ensures in
+    let answered = c.in_ok-answer.ensures in
     let shorter = after_shorter c.loop-rest.rest.now some in
     let same = ap length cut-next in (
       omega (arith, shorter, same, c.loop-rest.invariant.0),

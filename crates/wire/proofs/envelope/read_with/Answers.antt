@@ -5,9 +5,9 @@ use Rattle.wire.specs.declared.types.Kind.TheVariants.{Unmarked}
 use Rattle.wire.proofs.Headers.{judged_by_kind, refused, accepted, places, parts_lie, answered_exactly}
 use Rattle.wire.proofs.envelope.read_with.Goals as goal
 
-pub returns-in-default : goal.returns-in-default
-returns-in-default c =
-    let unsound = judged_by_kind c.args.session c.args.public c.args.bytes.now None (sym c.in-default.ensures) in
+pub returns-in_default : goal.returns-in_default
+returns-in_default c =
+    let unsound = judged_by_kind c.args.session c.args.public c.args.bytes.now None (sym c.in_default.ensures) in
     let is = sym (refused c.args.session c.args.public c.args.bytes.now unsound) in
     record { as_defined = is; accepts_exactly_the_well_formed = answered_exactly c.args.session c.args.public c.args.bytes.now (Err Malformed) is; parts_lie_as_laid_out = parts_lie c.args.session c.args.public c.args.bytes.now }
 

@@ -2,9 +2,9 @@ use Rattle.std.proofs.Common.{rules}
 use Rattle.wire.specs.Envelope.{kind_of}
 use Rattle.wire.proofs.layout.kind_in.Goals as goal
 
-pub returns-in-default : goal.returns-in-default
+pub returns-in_default : goal.returns-in_default
 unfolding kind_of
-returns-in-default c = search rules
+returns-in_default c = search rules
 
 pub returns-in-0 : goal.returns-in-0
 unfolding kind_of
@@ -18,6 +18,6 @@ pub returns-in-2 : goal.returns-in-2
 unfolding kind_of
 returns-in-2 c = search rules
 
-pub returns-in-default-number : goal.returns-in-default-number
+pub returns-in_default-number : goal.returns-in_default-number
 unfolding kind_of
-returns-in-default-number c = search rules
+returns-in_default-number c = search rules
