@@ -3,7 +3,7 @@ use Rattle.std.proofs.Common.{◌≡◌, ℕ, true, false, cond, eqb, leb, List,
 use Rattle.std.specs.Option.{option_map, ok_or}
 use Rattle.refusal.specs.declared.Refusal.TheVariants.{Malformed}
 use Rattle.permission.specs.Terms.{Term}
-use Rattle.permission.specs.Reading.{Reading, then, members_in, any_judged, is_name, ended, judged, term_in, term_of, well_formed, covered, judged_whole, verdict}
+use Rattle.permission.specs.Reading.{Reading, members_in, any_judged, is_name, ended, judged, term_in, term_of, well_formed, covered, judged_whole, verdict}
 use Rattle.permission.proofs.Walks.{row_of_one}
 
 -- to judge and then to ask for the end is to ask for the end and then to judge

@@ -1,4 +1,6 @@
 // Permission terms: which names a term covers, decided over its bytes where they lie.
+#![tactic(auto)]
+
 ghost use Rattle.std.specs.Prelude.{◌≡◌, ◌||◌, length, take, Decides};
 ghost use Rattle.permission.specs.Answers.{SomeWellFormedTerm, Answers, OnlyAnswer, OneTermAtMost};
 ghost use Rattle.permission.specs.Reading.{graphic, all_graphic, is_name, text_in, name_in, not_after, elt_in, prefix_in, range_in, members_in, count_in, set_in, term_in, judged, any_judged, judged_whole, well_formed, covering};
