@@ -1,4 +1,6 @@
 // Whether a signer is authorised: by ownership, by an entry, or by a chain of certificates of any length.
+#![tactic(auto)]
+
 mod chain;
 mod hashes;
 mod roots;

@@ -1,4 +1,6 @@
 // The guard: which requests reach the hub's service.
+#![tactic(auto)]
+
 mod acting;
 mod guard;
 mod listing;

@@ -1,5 +1,7 @@
 // Envelopes in hexadecimal from the standard input, one to a line, `-` for no bytes: delivers each to one guard, and
 // writes 0, or the stage and the code of the refusal. At the end it writes how many commands the relay panel has done.
+#![tactic(auto)]
+
 use anyhow::anyhow;
 use guard::Guard;
 use parties::hmac_verifier::HmacVerifier;

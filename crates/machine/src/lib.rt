@@ -1,6 +1,8 @@
 // The machine as definitions, and what is proved of every history that it can have.
 //
 // Each function here is a theorem: it does nothing, and its contract is proved. The statements stand in specs/.
+#![tactic(auto)]
+
 ghost use Rattle.machine.specs.Delegation.{TheTestDecidesAuthorisation};
 ghost use Rattle.machine.specs.Example.{AnExampleShowsWhatIsDue};
 ghost use Rattle.machine.specs.Machine.{TheServiceDoesWhatItIsGivenAndTakes};

@@ -1,4 +1,6 @@
 // What a guard is asked: an envelope with its action and arguments, read where it lies.
+#![tactic(auto)]
+
 mod reader;
 mod types;
 

@@ -1,4 +1,6 @@
 // Envelopes: a header, arguments and a tag, read where they lie, and written.
+#![tactic(auto)]
+
 pub mod envelope;
 mod fields;
 mod layout;

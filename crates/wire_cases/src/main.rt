@@ -1,5 +1,7 @@
 // Envelopes from the standard input, one to a line: for each, what it is refused for, or what it says.
 // A line has the bytes in hexadecimal, and may have a blank and a number of zero bytes that follow them.
+#![tactic(auto)]
+
 mod envelopes;
 mod show;
 mod verifier;

@@ -1,4 +1,6 @@
 // The worked cases of permission terms and of key hash texts, proved in the definitions that the calls' contracts use.
+#![tactic(auto)]
+
 ghost use Rattle.std.specs.Prelude.{◌≡◌};
 ghost use Rattle.worked.specs.Worked.{WorkedCases};
 
