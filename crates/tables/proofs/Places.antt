@@ -1,7 +1,7 @@
 -- The first place of a record, by a walk along the list.
 use Rattle.std.proofs.Common.{◌≡◌, ℕ, zero, suc, ◌+◌, ◌<◌, ◌≤◌, min, Bool, true, false, cond, ◌⊎◌, List, [], ◌∷◌, length, get_or, take, drop, set, Some, None, Decides, Option, sym, refl, ap, ◌∙◌, subst, inl, inr, ⊎_elim, arith}
 use Rattle.std.specs.List.{remove}
-use Rattle.std.proofs.lemmas.List.{at_drop_more, get_or-take, length-take-le, length-take, take_all, drop_all, append-nil, same_lists, places}
+use Rattle.std.proofs.lemmas.List.{at_drop_more, get_or-take, length-take-le, length-take, take_all, drop_all, append-nil, same_lists}
 use Rattle.tables.specs.Kept.{at}
 use Rattle.tables.specs.Place.{position, position_from, named, StandsAt, FirstPlace}
 

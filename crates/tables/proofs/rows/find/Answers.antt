@@ -1,6 +1,6 @@
-use Rattle.std.proofs.Common.{◌≡◌, Some, None, Option, sym, ◌∙◌, subst, arith}
+use Rattle.std.proofs.Common.{sym, ◌∙◌, arith}
 use Rattle.std.proofs.lemmas.List.{at_drop_all}
-use Rattle.tables.specs.Place.{position_from, position, named, FirstPlace}
+use Rattle.tables.specs.Place.{position_from, named}
 use Rattle.tables.proofs.Places.{position_is_here, position_is_past, key_is_first_place}
 use Rattle.tables.proofs.rows.find.Goals as goal
 

@@ -1,4 +1,4 @@
-use Rattle.std.proofs.Common.{◌≡◌, ◌<◌, ◌≤◌, length, take, refl, arith}
+use Rattle.std.proofs.Common.{◌<◌, ◌≤◌, length, take, refl, arith}
 use Rattle.std.proofs.lemmas.List.{length-take}
 use Rattle.tables.proofs.Gaps.{closed}
 use Rattle.tables.proofs.Places.{at_is_front, at_is_none, nothing_to_remove}
