@@ -1,5 +1,5 @@
 -- A new last number changes one session, and in it one field.
-use Rattle.std.proofs.Common.{◌≡◌, ℕ, List, length, get_or, set, sym, ap, ◌∙◌, subst}
+use Rattle.std.proofs.Common.{◌≡◌, ℕ, List, length, get_or, ap, ◌∙◌}
 use Rattle.std.proofs.lemmas.List.{length-set, get_or-set_same, get_or-set_other, get_or_default}
 use Rattle.sessions.specs.declared.types.Session.{Session}
 use Rattle.sessions.specs.Opened.{used_at, with_last, blank_session, OnlyLast}

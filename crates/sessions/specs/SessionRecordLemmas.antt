@@ -1,3 +1,4 @@
+-- The name of a session, from its two parts: what the law of its record is proved by.
 use Rattle.std.specs.Prelude.{ℕ, List}
 use Rattle.sessions.specs.declared.types.SessionName.{SessionName}
 

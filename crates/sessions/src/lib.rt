@@ -1,4 +1,6 @@
 // The table of open sessions, whose records are lent and changed in place.
+#![tactic(auto)]
+
 mod sessions;
 mod types;
 

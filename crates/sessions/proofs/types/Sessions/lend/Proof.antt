@@ -1,12 +1,12 @@
 -- `lend` lends one record of the array, and the table follows it, for every record type. Assumes `Logic`.
-use Rattle.std.proofs.Common.{◌≡◌, ℕ, zero, suc, ◌+◌, ◌*◌, ◌^◌, ◌<◌, ◌≤◌, List, [], ◌∷◌, length, get_or, set, sym, refl, ◌∙◌, subst, not-suc-le-zero, mul-le-mul_right, arith, lit<, length-set, w64}
+use Rattle.std.proofs.Common.{◌≡◌, ℕ, zero, ◌+◌, ◌*◌, ◌^◌, ◌<◌, ◌≤◌, List, [], ◌∷◌, length, get_or, set, sym, refl, ◌∙◌, subst, not-suc-le-zero, mul-le-mul_right, arith, lit<, length-set, w64}
 use seplogic.Ra.Ura.{Ura}
-use mir.Syntax.{Fn, Ty, Sym, a_type, named, ty_array, ty_int}
+use mir.Syntax.{Fn, a_type, named, ty_array, ty_int}
 use mir.MapTy.{inst_fn}
 use mir.Val.{Val, vint, vptr}
 use base.Fraction.{full_share}
 use base.Logic.{SProp, ent, sep, ex, guard, via, fst∗, snd∗}
-use base.Fml.{Lft, GName, Share, ftrue, feq, fsep, flft, fobs, fauth, fbor, fobor}
+use base.Fml.{Lft, GName, Share, ftrue, feq, fsep, flft, fobs, fauth, fobor}
 use prog.Memory.{Memory, size, align, up}
 use prog.Routine.{Routine}
 use prog.Wp.{Calls, Loops, WpFn, Tables}
@@ -37,7 +37,7 @@ use denote.Index.{place, place_is, others, takes, puts, row}
 use denote.Follow.{follows, lends_Part}
 use denote.Struct.Members.{Member}
 use denote.Struct.Parts.{PartsBack}
-use denote.Struct.Pick.{one_at, rest_at, record_field_out, record_field_back}
+use denote.Struct.Pick.{rest_at, record_field_out, record_field_back}
 use denote.Struct.Laws.{usize-laws}
 use denote.Triple.Clauses.{Clauses, closing}
 use denote.Triple.Entry.{on_entry}
