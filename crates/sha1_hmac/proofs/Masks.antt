@@ -1,5 +1,5 @@
 -- The key's block, masked byte by byte.
-use Rattle.std.proofs.Common.{◌≡◌, ℕ, suc, ◌+◌, ◌-◌, ◌<◌, ◌≤◌, List, [], ◌∷◌, ◌++◌, map, length, get_or, take, set, replicate, sym, refl, ap, ◌∙◌, arith, length-append}
+use Rattle.std.proofs.Common.{◌≡◌, ℕ, suc, ◌+◌, ◌-◌, ◌<◌, List, [], ◌∷◌, ◌++◌, map, length, get_or, take, set, replicate, sym, refl, ap, ◌∙◌, arith, length-append}
 use lib.Bits.{bit_xor}
 use lib.ListN.{length-map, length-replicate}
 use Rattle.std.proofs.lemmas.List.{map_more, map-append, set_at, append_assoc, take_all, length-take-le, replicate-append-replicate}

@@ -1,3 +1,5 @@
+#![tactic(auto)]
+
 ghost use Rattle.std.specs.Prelude.{◌≡◌};
 ghost use Rattle.sha1_hmac.specs.Message.{digest};
 ghost use Rattle.sha1_hmac.specs.Keyed.{hmac_of};
