@@ -1,4 +1,6 @@
 // Why a text or a request is refused: one enum for every layer.
+#![tactic(auto)]
+
 ghost use Rattle.std.specs.Prelude.{◌≡◌};
 ghost use Rattle.refusal.specs.Report.{report};
 

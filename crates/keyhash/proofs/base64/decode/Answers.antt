@@ -1,4 +1,4 @@
-use Rattle.std.proofs.Common.{◌≡◌, ℕ, ◌/◌, ◌%◌, true, false, ◌&&◌, eqb, map, length, get_or, Ok, sym, refl, ap, ◌∙◌, arith}
+use Rattle.std.proofs.Common.{◌≡◌, ℕ, ◌/◌, true, false, map, length, get_or, Ok, sym, refl, ap, ◌∙◌, arith}
 use Rattle.std.specs.Int.Digits.{number_from_digits}
 use Rattle.keyhash.specs.Numeral.{numeral}
 use Rattle.keyhash.specs.Base64.{digit_of, spelled, reading}

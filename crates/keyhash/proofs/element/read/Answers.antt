@@ -1,8 +1,7 @@
-use Rattle.std.proofs.Common.{◌≡◌, ℕ, true, false, List, ◌++◌, length, take, drop, Err, sym, refl, ap, ◌∙◌, arith, rules}
+use Rattle.std.proofs.Common.{◌≡◌, ℕ, true, false, List, ◌++◌, length, take, drop, Err, sym, refl, ◌∙◌, arith}
 use Rattle.std.proofs.lemmas.List.{take_all, length-drop}
 use Rattle.refusal.specs.declared.Refusal.TheVariants.{Malformed}
-use Rattle.keyhash.specs.Base64.{reading, StrayBits}
-use Rattle.keyhash.specs.Element.{opening, closing, element, reading_element}
+use Rattle.keyhash.specs.Element.{opening, closing, reading_element}
 use Rattle.keyhash.proofs.Elements.{element_canonical, refuses_length, refuses_opening, refuses_closing, refuses_stray_bits, reads_inner, in_three}
 use Rattle.keyhash.proofs.element.read.Goals as goal
 use Rattle.keyhash.proofs.element.read.Goals.{then-not-same-via-then-not-same, then-not-same-via-else-not-same+then-not-same-2}

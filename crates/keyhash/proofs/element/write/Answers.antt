@@ -1,4 +1,4 @@
-use Rattle.std.proofs.Common.{◌≡◌, ◌+◌, ◌++◌, length, take, refl, ap, ◌∙◌, arith, rules}
+use Rattle.std.proofs.Common.{◌≡◌, ◌+◌, ◌++◌, length, take, ap, ◌∙◌, arith}
 use Rattle.keyhash.specs.Base64.{text}
 use Rattle.keyhash.specs.Element.{opening, closing, element, reading_element}
 use Rattle.keyhash.proofs.Elements.{element_canonical, filled}
