@@ -1,6 +1,6 @@
 -- The tests on names decide what names are and how they are ordered.
 use Rattle.std.proofs.Common.{ℕ, ◌≤◌, ◌&&◌, eqb, ltb, leb, List, [], ◌∷◌, ◌++◌, length, take, drop, Decides, sym, refl, ap, ◌∙◌}
-use Rattle.std.specs.List.{AllByRecursion as All}
+use Rattle.std.specs.List.{AllByRecursion}
 use Rattle.std.specs.Str.{bytes_eq}
 use Rattle.std.proofs.lemmas.List.{take-append-drop, take_at}
 use Rattle.std.proofs.lemmas.Slice.Eq.{bytes_eq-Decides}
@@ -16,7 +16,7 @@ leb_decides a b = (leb-true a b, le-leb a b)
 graphic_decides : (b : ℕ) → Decides (graphic b) (Graphic b)
 graphic_decides b = Decides-and (leb 0x21 b) (leb b 0x7E) (leb_decides 0x21 b) (leb_decides b 0x7E)
 
-pub all_graphic_decides : (bytes : List ℕ) → Decides (all_graphic bytes) (All Graphic bytes)
+pub all_graphic_decides : (bytes : List ℕ) → Decides (all_graphic bytes) (AllByRecursion Graphic bytes)
 all_graphic_decides bytes = Decides-by_and graphic Graphic all_graphic graphic_decides refl (λ _ _. refl) bytes
 
 pub is_name_decides : (bytes : List ℕ) → Decides (is_name bytes) (IsName bytes)

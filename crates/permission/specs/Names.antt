@@ -1,6 +1,6 @@
 -- Names: which bytes they hold, and their order.
 use Rattle.std.specs.Prelude.{◌≡◌, ℕ, ◌<◌, ◌≤◌, ◌⊎◌, List, [], ◌∷◌, ◌++◌, length}
-use Rattle.std.specs.List.{AllByRecursion as All}
+use Rattle.std.specs.List.{AllByRecursion}
 
 -- a byte that a name may hold
 abbrev pub Graphic : ℕ → Type 0
@@ -9,7 +9,7 @@ Graphic b = (0x21 ≤ b) × (b ≤ 0x7E)
 -- a text: at most 16 graphic bytes
 pub record IsText (bytes : List ℕ) : Type 0 where
   pub short : length bytes ≤ 16
-  pub graphic : All Graphic bytes
+  pub graphic : AllByRecursion Graphic bytes
 
 -- a name: a text of one byte or more
 pub record IsName (bytes : List ℕ) : Type 0 where
