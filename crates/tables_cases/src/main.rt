@@ -1,6 +1,8 @@
 // Runs the tables on cases, with a record type of its own, and prints what they answer.
+#![tactic(auto)]
+
 ghost use Rattle.std.specs.Prelude.{◌&&◌, ◌==◌};
-ghost use Rattle.std.proofs.Common.{rules};
+ghost use Rattle.tables_cases.specs.Entries.{fields_decide};
 
 use sessions::{Session, SessionName, Sessions};
 use std::io;
@@ -19,7 +21,7 @@ impl Record for Entry {
 
     ghost equal = { λ a b. (a.subject == b.subject) && a.mask == b.mask };
 
-    ghost decides = { Prim.search rules };
+    ghost decides = { fields_decide };
 
     fn has_key(&self, sought: &Entry) -> bool {
         self.subject == sought.subject && self.mask == sought.mask
