@@ -60,7 +60,7 @@ module _ (s : Scope) where
       same_fields
       (flag_back s.delegate)
       (ap (number_from_digits 256) (take_at before (after ++ rest) 8 (length-big_endian 8 s.not_before)) ∙ number_of_big_endian 8 s.not_before fits.not_before)
-      (ap (λ bs. number_from_digits 256 (take 8 bs)) (drop_at before (after ++ rest) 8 (length-big_endian 8 s.not_before)) ∙ ap (number_from_digits 256) (take_at after rest 8 (length-big_endian 8 s.not_after)) ∙ number_of_big_endian 8 s.not_after fits.not-after)
+      (ap (λ bs. number_from_digits 256 (take 8 bs)) (drop_at before (after ++ rest) 8 (length-big_endian 8 s.not_before)) ∙ ap (number_from_digits 256) (take_at after rest 8 (length-big_endian 8 s.not_after)) ∙ number_of_big_endian 8 s.not_after fits.not_after)
       (ap (λ bs. slice_index bs 16) behind_the_flag ∙ get_or_at numbers s.term_length s.term 0 16 length-numbers)
       (ap (drop 17) behind_the_flag ∙ sym (drop-drop 1 16 (numbers ++ rest)) ∙ ap (drop 1) (drop_at numbers rest 16 length-numbers))
 
@@ -88,7 +88,7 @@ module _ (bytes : List ℕ) (size : length bytes ≡ 66) (under : AllBelowBase 2
 
   pub fields_fit : ScopeFits (scope_at bytes)
   fields_fit = record {
-    window = record { not_before = number_fits 1 (omega arith); not-after = number_fits 9 (omega arith) };
+    window = record { not_before = number_fits 1 (omega arith); not_after = number_fits 9 (omega arith) };
     term_length = All-get_or (λ b. b < 256) bytes 17 0 (omega arith) under;
     term = (length-drop 18 bytes ∙ omega arith, All-drop (λ b. b < 256) 18 bytes under);
   }

@@ -1,4 +1,6 @@
 // Entries and certificates: read from bytes, written to bytes, compared, and asked whether they apply.
+#![tactic(auto)]
+
 mod bytes;
 mod certificate;
 mod entry;
