@@ -5,4 +5,4 @@ pub mod Waiting
 pub mod Outboxes
 pub mod Sendable
 pub mod Verdicts
-pub mod Targets
+pub mod SetTargets

@@ -3,7 +3,6 @@ use Rattle.std.specs.Prelude.{◌≡◌, ℕ, ◌<◌, Bool, ◌&&◌, List, len
 use Rattle.std.specs.Option.{option_map}
 use Rattle.std.specs.Str.{bytes_eq}
 use Rattle.parties.specs.declared.command.Performed.{Performed}
-use Rattle.parties.specs.declared.relay_panel.SetTarget.{SetTarget}
 use Rattle.parties.specs.declared.relay_panel.RelayPanel.{RelayPanel}
 use Rattle.parties.specs.Commands.{Command, command, verdict_of, limit}
 

@@ -1,6 +1,6 @@
 -- What the sizes of a command that can be sent are.
-use Rattle.std.specs.Prelude.{◌≡◌, ℕ, ◌≤◌, true, ◌&&◌, List, length, nat_le}
-use Rattle.std.proofs.Common.{arith}
+use Rattle.std.specs.Prelude.{◌≡◌, ℕ, ◌≤◌, true, ◌&&◌, List, length, nat_le, refl}
+use Rattle.std.proofs.Math.Nat.{le_trans}
 use Rattle.std.proofs.lemmas.Bool.{leb-true, and_parts}
 use Rattle.parties.specs.Commands.{Command, WellSized}
 use Rattle.parties.specs.Waiting.{is_sendable}
@@ -16,4 +16,4 @@ module _ (name payload : List ℕ) where
 pub sendable_is_well_sized : (c : Command) → is_sendable c.name c.payload ≡ true → WellSized c
 sendable_is_well_sized c e =
     let sizes = sendable_fits c.name c.payload e in
-    record { named = sizes.0; short_name = sizes.1; short_payload = omega (arith, sizes.2) }
+    record { named = sizes.0; short_name = sizes.1; short_payload = le_trans sizes.2 (leb-true 16 512 refl) }

@@ -1,7 +1,8 @@
 ghost use Rattle.std.specs.Prelude.{◌≡◌, Decides};
 ghost use Rattle.sha1_hmac.specs.Keyed.{hmac_of};
 ghost use Rattle.parties.specs.Standing.{hmac_stands, OtherLengthsNeverStand};
-ghost use Rattle.std.proofs.Common.{rules};
+ghost use Rattle.std.proofs.Common.{refl};
+ghost use Rattle.std.proofs.lemmas.Bool.{leb-true};
 
 use crate::bytes::same_in_constant_time;
 use crate::verifier::Verifier;
@@ -25,7 +26,7 @@ impl Verifier for HmacVerifier {
 
     ghost stands = { λ _. hmac_stands };
 
-    ghost from_1_to_20_bytes = { Prim.search rules };
+    ghost from_1_to_20_bytes = { (leb-true 1 20 refl, leb-true 20 20 refl) };
 
     fn tag_width() -> usize {
         Self::TAG_LENGTH

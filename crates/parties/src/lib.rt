@@ -1,4 +1,6 @@
 // The parties that a guard works with: who verifies tags, and who performs commands.
+#![tactic(auto)]
+
 mod bytes;
 pub mod command;
 mod command_log;

@@ -6,8 +6,7 @@ ghost use Rattle.parties.specs.Waiting.{stored, is_sendable};
 ghost use Rattle.parties.specs.Outboxes.{queued, waiting, oldest, outbox_last, outbox_verdict};
 ghost use Rattle.std.proofs.lemmas.Bool.{and_parts};
 ghost use Rattle.parties.specs.Sendable.{sendable_is_well_sized};
-ghost use Rattle.parties.specs.Verdicts.{what_is_taken_passes_both};
-ghost use Rattle.std.proofs.Common.{rules};
+ghost use Rattle.parties.specs.Verdicts.{nothing_is_taken_past_the_limit, what_is_taken_passes_both};
 
 use crate::command::{CommandView, Performed};
 use crate::command_log::CommandLog;
@@ -113,7 +112,7 @@ impl Service for Outbox {
 
     ghost verdict = { outbox_verdict };
 
-    ghost nothing_is_taken_at_the_limit = { Prim.search rules };
+    ghost nothing_is_taken_at_the_limit = { λ s _ full. nothing_is_taken_past_the_limit s.log.done _ full };
 
     ghost what_is_taken_is_well_sized = { λ s c taken.
         sendable_is_well_sized c

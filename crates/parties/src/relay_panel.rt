@@ -1,9 +1,8 @@
 ghost use Rattle.std.specs.Prelude.{◌≡◌, ◌+◌, true, false, replicate, if◌then◌else◌, Some, None, MatchOption, nat_lt};
 ghost use Rattle.parties.specs.Commands.{command, is_taken, Untouched, limit};
 ghost use Rattle.parties.specs.Relays.{is_set_target, panel_verdict, panel_last, switched, Requested};
-ghost use Rattle.parties.specs.Targets.{target_is_well_sized};
-ghost use Rattle.parties.specs.Verdicts.{what_is_taken_passes_both};
-ghost use Rattle.std.proofs.Common.{rules};
+ghost use Rattle.parties.specs.SetTargets.{target_is_well_sized};
+ghost use Rattle.parties.specs.Verdicts.{nothing_is_taken_past_the_limit, what_is_taken_passes_both};
 
 use crate::command::{CommandView, Performed};
 use crate::command_log::CommandLog;
@@ -71,7 +70,7 @@ impl Service for RelayPanel {
 
     ghost verdict = { panel_verdict };
 
-    ghost nothing_is_taken_at_the_limit = { Prim.search rules };
+    ghost nothing_is_taken_at_the_limit = { λ p _ full. nothing_is_taken_past_the_limit p.log.done _ full };
 
     ghost what_is_taken_is_well_sized = { λ s c taken. target_is_well_sized c (what_is_taken_passes_both (nat_lt s.log.done limit) (is_set_target c.name c.payload) taken).1 };
 

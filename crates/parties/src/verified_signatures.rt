@@ -1,7 +1,8 @@
 ghost use Rattle.std.specs.Prelude.{◌≡◌, ◌≤◌, ◌&&◌, length, Decides, ◌==◌};
 ghost use Rattle.sha1_hmac.specs.Message.{digest};
 ghost use Rattle.parties.specs.Standing.{agrees, one_agrees, OneAgrees, signature_stands, OtherLengthsNeverStand};
-ghost use Rattle.std.proofs.Common.{rules};
+ghost use Rattle.std.proofs.Common.{refl};
+ghost use Rattle.std.proofs.lemmas.Bool.{leb-true};
 
 use crate::bytes::same_in_constant_time;
 use crate::verifier::Verifier;
@@ -66,7 +67,7 @@ impl Verifier for VerifiedSignatures<'_> {
 
     ghost stands = { λ s. signature_stands s.list.now };
 
-    ghost from_1_to_20_bytes = { Prim.search rules };
+    ghost from_1_to_20_bytes = { (leb-true 1 20 refl, leb-true 20 20 refl) };
 
     fn tag_width() -> usize
         ensures is_the_width { result ≡ 20 }

@@ -1,7 +1,7 @@
 use Rattle.std.proofs.Common.{◌≡◌, true, ◌∙◌, arith}
 use Rattle.std.proofs.lemmas.Slice.Eq.{slice_eq-Decides}
 use Rattle.parties.specs.Relays.{is_set_target}
-use Rattle.parties.specs.Targets.{other_payload_is_no_target, target_is_tested, target_is_requested}
+use Rattle.parties.proofs.Targets.{other_payload_is_no_target, target_is_tested, target_is_requested}
 use Rattle.parties.proofs.relay_panel.requested.Goals as goal
 use Rattle.std.proofs.lemmas.Bool.Decides.{Decides-eqb}
 

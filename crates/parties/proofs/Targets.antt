@@ -6,7 +6,6 @@ use Rattle.std.specs.Str.{bytes_eq}
 use Rattle.std.proofs.lemmas.Slice.Eq.{bytes_eq-Decides}
 use Rattle.std.proofs.lemmas.Bool.{ne_eqb, eq-eqb, eqb-true, ltb-true, and_parts, and_left, and_right}
 use Rattle.std.proofs.lemmas.Bool.Decides.{same_from_decides}
-use Rattle.parties.specs.Commands.{Command, WellSized}
 use Rattle.parties.specs.Relays.{is_set_target, Requested}
 
 two_bytes : (xs : List ℕ) → length xs ≡ 2 → xs ≡ (slice_index xs 0 ∷ slice_index xs 1 ∷ [])
@@ -42,10 +41,3 @@ module _ (name payload : List ℕ) where
         payload_is = two_bytes payload (eqb-true (length payload) 2 sized.0);
         relay = ltb-true (slice_index payload 0) 8 states.0;
       }
-
-pub target_is_well_sized : (c : Command) → is_set_target c.name c.payload ≡ true → WellSized c
-target_is_well_sized c e =
-    let r = target_is_requested c.name c.payload e in
-    let n : length c.name ≡ 9 = ap length r.name_is in
-    let p : length c.payload ≡ 2 = ap length r.payload_is in
-    record { named = omega arith; short_name = omega arith; short_payload = omega arith }
