@@ -1,5 +1,5 @@
 -- Hexadecimal digits and the bytes that they write.
-use Rattle.std.proofs.Common.{◌≡◌, ℕ, suc, ◌+◌, ◌*◌, ◌/◌, ◌%◌, ◌<◌, Bool, true, false, cond, ◌&&◌, eqb, ltb, List, [], ◌∷◌, ◌++◌, map, length, get_or, take, Some, None, Decides, sym, refl, ap, ◌∙◌, subst, add-suc, add-one, arith}
+use Rattle.std.proofs.Common.{◌≡◌, ℕ, suc, ◌+◌, ◌*◌, ◌/◌, ◌%◌, ◌<◌, Bool, true, false, cond, ◌&&◌, eqb, ltb, List, [], ◌∷◌, ◌++◌, map, length, get_or, take, Some, None, Decides, sym, refl, ap, ◌∙◌, add-one, arith}
 use Rattle.std.specs.Int.Digits.{number_from_digits}
 use Rattle.std.specs.List.{AllByRecursion as All}
 use Rattle.std.proofs.ByRecursion.{All-get_or, All-from_get_or, Decides-by_and}
@@ -7,7 +7,7 @@ use Rattle.std.proofs.lemmas.List.{append_assoc, map-append, length-map, get_or-
 use Rattle.std.proofs.lemmas.Bool.Decides.{Decides-ltb, Decides-eqb, nat_tests}
 use Rattle.keyhash.specs.Numeral.{numeral}
 use Rattle.keyhash.proofs.Numbers.{numeral-step, number_next}
-use Rattle.hexadecimal.specs.Hex.{hex_character, hex_value, all_hex, hex_text, hex_bytes}
+use Rattle.hexadecimal.specs.Hex.{hex_character, hex_value, all_hex, hex_bytes}
 
 -- each byte is a digit
 abbrev pub Digits : List ℕ → Type 0

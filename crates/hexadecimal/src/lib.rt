@@ -1,4 +1,6 @@
 // Bytes as hexadecimal digits, two for each byte.
+#![tactic(auto)]
+
 ghost use Rattle.std.specs.Prelude.{◌≡◌, ℕ, ◌+◌, ◌*◌, ◌<◌, List, [], ◌∷◌, ◌++◌, length, IfOk, vec_items, vec_len, codes, Decides, OnOk, slice_index};
 ghost use Rattle.std.specs.Option.{option_map};
 ghost use Rattle.std.specs.Str.{bytes_eq};
@@ -73,7 +75,7 @@ pub fn bytes_named(heap: Global, word: &[u8]) -> Result<Option<Vec<u8>>, AllocEr
 fn is_dash(word: &[u8]) -> bool
     ensures { result ≡ bytes_eq word.now (codes "-") }
 {
-    word == b"-"
+    word == b"-".as_slice()
 }
 
 // Adds the digits of some bytes, in lower case.

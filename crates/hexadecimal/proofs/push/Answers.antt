@@ -1,4 +1,4 @@
-use Rattle.std.proofs.Common.{◌≡◌, ℕ, ◌+◌, ◌*◌, List, [], ◌∷◌, ◌++◌, map, length, take, vec_items, sym, refl, ap, ◌∙◌, subst, arith, rules}
+use Rattle.std.proofs.Common.{◌≡◌, ℕ, ◌*◌, [], ◌∷◌, ◌++◌, map, length, take, vec_items, sym, ap, ◌∙◌, subst, arith}
 use Rattle.std.specs.Int.Digits.{number_from_digits}
 use Rattle.std.proofs.lemmas.List.{append_assoc, append-nil, take_all}
 use Rattle.std.proofs.lemmas.Slice.{pushed}
@@ -21,7 +21,7 @@ loop-b-preserved c =
     two
     ∙ append_assoc (old ++ front) (c.character_of.result ∷ []) (c.character_of-in-loop-b.result ∷ [])
     ∙ append_assoc old front (c.character_of.result ∷ c.character_of-in-loop-b.result ∷ [])
-    ∙ ap (λ xs. old ++ xs) (text_more c.args.bytes.now i _ _ (omega arith) (c.type-inv.bytes i).fits c.character_of.ensures c.character_of-in-loop-b.ensures)
+    ∙ ap (λ xs. old ++ xs) (text_more c.args.bytes.now i _ _ (omega arith) (c.type_inv.bytes i).fits c.character_of.ensures c.character_of-in-loop-b.ensures)
 
 pub returns : goal.returns
 unfolding hex_text
