@@ -1,11 +1,8 @@
 -- The words of a line, one byte on.
-use Rattle.std.proofs.Common.{◌≡◌, ℕ, ◌+◌, ◌-◌, ◌<◌, ◌≤◌, Bool, true, false, cond, ◌&&◌, ◌||◌, eqb, List, [], ◌∷◌, ◌++◌, length, get_or, take, drop, codes, Decides, sym, refl, ap, ◌∙◌, subst, arith}
-use Rattle.std.specs.Str.{bytes_eq}
-use Rattle.std.proofs.lemmas.Slice.Eq.{bytes_eq-Decides}
-use Rattle.std.proofs.lemmas.List.{append_assoc, append-nil, take_all, drop_all, take_more, at_drop_more, at_drop_all, nil_from_length}
-use Rattle.std.proofs.lemmas.Bool.Decides.{nat_tests, Decides-eqb, not_from_Decides}
-use Rattle.statement.specs.Lines.{before, after, space, blank, comment, longer, lines_of, trimmed}
-use Rattle.statement.specs.Statements.{Said, nothing, hash, text, covers, sha1, hmac, unknown, says}
+use Rattle.std.proofs.Common.{◌≡◌, ℕ, ◌+◌, ◌-◌, ◌<◌, ◌≤◌, Bool, true, false, cond, ◌&&◌, eqb, List, [], ◌∷◌, ◌++◌, length, get_or, take, drop, sym, refl, ap, ◌∙◌, arith}
+use Rattle.std.proofs.lemmas.List.{append_assoc, take_more, at_drop_more, at_drop_all, nil_from_length}
+use Rattle.std.proofs.lemmas.Bool.Decides.{nat_tests, Decides-eqb}
+use Rattle.statement.specs.Lines.{before, after, space, blank, longer, lines_of, trimmed}
 
 and_assoc : (a b c : Bool) → ((a && b) && c) ≡ (a && (b && c))
 and_assoc true b c = refl
@@ -44,33 +41,6 @@ module _ (sep : ℕ) (line : List ℕ) (i : ℕ) (l : i < length line) where
             ∙ ap (λ xs. xs ++ before sep (drop (i + 1) line)) (sym (take_more line i 0 l)),
         back ∙ ap (λ b. cond b (drop (i + 1) line) (after sep (drop (i + 1) line))) f,
       )
-
--- what a line says that is not passed over, by its first word
-module _ (line : List ℕ) (p : blank line ≡ false) (q : comment line ≡ false) where
-  pub says_hash : before 32 line ≡ codes "hash" → says line ≡ hash (after 32 line)
-  says_hash e = simp (p, q, e)
-
-  pub says_text : before 32 line ≡ codes "text" → says line ≡ text (after 32 line)
-  says_text e = simp (p, q, e)
-
-  pub says_covers : before 32 line ≡ codes "covers" → says line ≡ covers (after 32 line)
-  says_covers e = simp (p, q, e)
-
-  pub says_sha1 : before 32 line ≡ codes "sha1" → says line ≡ sha1 (after 32 line)
-  says_sha1 e = simp (p, q, e)
-
-  pub says_hmac : before 32 line ≡ codes "hmac" → says line ≡ hmac (after 32 line)
-  says_hmac e = simp (p, q, e)
-
-  other : (word : List ℕ) → (before 32 line ≡ word → ⊥) → bytes_eq (before 32 line) word ≡ false
-  other word no_word = by _ (bytes_eq-Decides (before 32 line) word)
-    where
-      by : (b : Bool) → Decides b (before 32 line ≡ word) → b ≡ false
-      by true decides = absurd (no_word (decides.0 refl))
-      by false decides = refl
-
-  pub says_unknown : (before 32 line ≡ codes "hash" → ⊥) → (before 32 line ≡ codes "text" → ⊥) → (before 32 line ≡ codes "covers" → ⊥) → (before 32 line ≡ codes "sha1" → ⊥) → (before 32 line ≡ codes "hmac" → ⊥) → says line ≡ unknown
-  says_unknown no-hash no_text no-covers no-sha1 no-hmac = simp (p, q, other (codes "hash") no-hash, other (codes "text") no_text, other (codes "covers") no-covers, other (codes "sha1") no-sha1, other (codes "hmac") no-hmac)
 
 -- lines that do not end with a carriage return
 pub trimmed_empty : (line : List ℕ) → length line ≡ 0 → trimmed line ≡ line

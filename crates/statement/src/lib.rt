@@ -1,4 +1,6 @@
 // What a line says.
+#![tactic(auto)]
+
 ghost use Rattle.std.specs.Prelude.{◌≡◌};
 ghost use Rattle.statement.specs.Lines.{space, blank, comment};
 ghost use Rattle.statement.specs.Statements.{says, said};
