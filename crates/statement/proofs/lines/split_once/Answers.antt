@@ -10,7 +10,7 @@ returns-then-c-separator c =
     let i = c.loop-i.i in
     let ends = part_ends c.args.separator c.args.bytes.now c.loop-i.i (omega arith) c.if-c-separator.true in
     let first : take c.loop-i.i c.args.bytes.now ≡ before c.args.separator c.args.bytes.now = sym (append-nil (take i line)) ∙ ap (λ xs. take i line ++ xs) (sym ends.0) ∙ c.loop-i.invariant.0 in
-    record { before_the_first = search rules; after_the_first = take_rest line (i + 1) ∙ sym ends.1 ∙ c.loop-i.invariant.1 }
+    record { before_the_first = search rules; after_the_first = grind (arith, take_rest line (i + 1), ends.1, c.loop-i.invariant.1) }
 
 pub loop-i-preserved : goal.loop-i-preserved
 loop-i-preserved c =
