@@ -1,4 +1,6 @@
 // An account of the answers given.
+#![tactic(auto)]
+
 ghost use Rattle.std.specs.Prelude.{◌≡◌, ℕ, ◌+◌, ◌<◌, List, [], ◌∷◌, ◌++◌, is_ok, IfOk, if◌then◌else◌, vec_len, string_bytes, nat_lt};
 ghost use Rattle.account.specs.Accounts.{empty, noted, tally, count_text, count_lines};
 ghost use Rattle.account.specs.Repeats.{ListsEachRepeatedHashOnce, repeats};

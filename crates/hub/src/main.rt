@@ -1,4 +1,6 @@
 // Answers the statements of a file, or of standard input, and gives an account of them.
+#![tactic(auto)]
+
 use account::Account;
 use anyhow::anyhow;
 use script::play::play;

@@ -1,5 +1,7 @@
 // Vectors for key hash texts. The hashes are fixed bytes or SHA-1 digests, three run through the alphabet of RFC 4648, and
 // the texts come from the Base64 encoder of GNU coreutils.
+#![tactic(auto)]
+
 #[cfg(test)]
 mod tests {
     use keyhash::{base64, element};

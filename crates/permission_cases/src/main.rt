@@ -1,4 +1,6 @@
 // Lines `TERMHEX NAME` from the standard input: for each, whether the term covers the name.
+#![tactic(auto)]
+
 use anyhow::anyhow;
 use std::alloc::Global;
 use std::io::{BufRead, BufReader};

@@ -1,4 +1,6 @@
 // What is answered to a statement, and the line that says so.
+#![tactic(auto)]
+
 ghost use Rattle.std.specs.Prelude.{◌≡◌, List, [], ◌∷◌, ◌++◌, IfOk, codes};
 ghost use Rattle.hexadecimal.specs.Hex.{hex_text, hex_bytes, bytes_named};
 ghost use Rattle.reply.specs.Replies.{hash_reply, text_reply, covers_reply, sha1_reply, key_of, hmac_reply, reply_to, reason, place, verdict, printed};

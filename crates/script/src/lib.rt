@@ -1,2 +1,4 @@
 // Statements for a hub, one a line, answered in order.
+#![tactic(auto)]
+
 pub mod play;

@@ -1,5 +1,7 @@
 // Examples of whole inputs, with mistakes, and of what is answered. The texts come from GNU coreutils' Base64 encoder, the
 // digests from FIPS 180-4 and the tag from RFC 2202.
+#![tactic(auto)]
+
 #[cfg(test)]
 mod tests {
     use script::play::play;

@@ -1,4 +1,6 @@
 // Entries for a web front in C. A slice passes as a pointer and a length.
+#![tactic(auto)]
+
 ghost use Rattle.std.specs.Prelude.{◌≡◌};
 ghost use Rattle.webfront.specs.Entries.{hash_read, hash_written, cover_told, answer, output};
 
