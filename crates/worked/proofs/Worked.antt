@@ -7,7 +7,7 @@ use Rattle.keyhash.specs.Base64.{text, spelled, reading}
 use Rattle.permission.specs.Names.{IsName}
 use Rattle.permission.specs.Answers.{Answers}
 use Rattle.permission.specs.Reading.{text_in, set_in, term_of, well_formed, covering}
-use Rattle.worked.specs.Worked.{Yes, No, IsMalformed, IsWellFormed, HasText, IsNoText, WorkedCases}
+use Rattle.worked.specs.Worked.{Yes, No, IsMalformed, IsWellFormed, WorkedCases}
 use Rattle.permission.proofs.Names.{is_name_decides}
 use Rattle.permission.proofs.Laws.{well_formed_decides, covering_answers}
 
