@@ -1,10 +1,9 @@
 -- From what the parts of a call promise to the machine's step.
-use Rattle.std.proofs.Common.{◌≡◌, ℕ, ◌+◌, ◌<◌, Bool, true, false, cond, not, ◌&&◌, eqb, ltb, List, [], ◌∷◌, length, Some, None, Ok, Err, Option, Result, sym, refl, ap, ◌∙◌, subst, arith}
+use Rattle.std.proofs.Common.{◌≡◌, ℕ, ◌+◌, ◌<◌, Bool, true, false, cond, not, ◌&&◌, eqb, ltb, List, [], length, Some, Ok, Err, Option, Result, sym, refl, ap, ◌∙◌, arith}
 use Rattle.std.proofs.lemmas.Bool.{ltb-true}
 use Rattle.refusal.specs.declared.Refusal.{Refusal}
 use Rattle.refusal.specs.declared.Refusal.TheVariants.{BadTag, OtherBase, BaseExhausted}
 use Rattle.wire.specs.declared.types.Kind.{Kind}
-use Rattle.sessions.specs.declared.types.Session.{Session}
 use Rattle.sessions.specs.Opened.{opened, used_at, with_last}
 use Rattle.tables.specs.Kept.{kept}
 use Rattle.tables.specs.Place.{position}
@@ -12,19 +11,19 @@ use Rattle.parties.specs.declared.command.Performed.{Performed}
 use Rattle.parties.specs.Commands.{Command}
 use Rattle.actions.specs.Arguments.{Arguments, Arguments.take_ownership, Arguments.set_session_keys, Arguments.expire_session_keys, Arguments.grant_ownership, Arguments.revoke_ownership, Arguments.add_entry, Arguments.delete_entry, Arguments.cache_certificate, Arguments.factory_security_reset, Arguments.perform}
 use Rattle.machine.specs.Lists.{first_of, with_first}
-use Rattle.machine.specs.Requests.{Meaning, Delivery, Signed, signed_from, Presented, presented, reading_in, reading, kind_asked}
+use Rattle.machine.specs.Requests.{Meaning, Delivery, Signed, signed_from, presented, reading_in, reading, kind_asked}
 use Rattle.machine.specs.Machine.{State, Answer, accepted, is_accepted, is_consumed, passing, by_session, signs, largest, screened_by_session, screened_by_key, screened, decided, base_after, number_used, owners_after, entries_after, certificates_after, sessions_after, command_asked, done_after, last_after}
 use Rattle.machine.specs.History.{Making}
-use Rattle.machine.specs.Law.{start, AtEveryMoment, Lived}
-use Rattle.machine.proofs.Judging.{passed, Screened, screened_facts}
+use Rattle.machine.specs.Law.{start}
+use Rattle.machine.proofs.Judging.{passed, screened_facts}
 use Rattle.machine.proofs.Lawfulness.{lawful_always}
 use Rattle.requests.specs.Received.{Received, with_signed, received_in}
 use Rattle.guard.specs.declared.types.Guard.{Guard}
-use Rattle.guard.specs.View.{view, alone, meaning, delivery, presenting, taken_of, taken_as, taken, Acted}
+use Rattle.guard.specs.View.{view, alone, delivery, presenting, taken_of, taken_as, taken, Acted}
 use Rattle.guard.specs.Call.{Stepped, Begins}
 use Rattle.guard.proofs.Finding.{used_is_with_first, length-with_first}
 use Rattle.guard.proofs.Steps.{SameTables, same_decision}
-use Rattle.guard.proofs.Delivering.{Fields, state_same, unread, screened_out, decided_on}
+use Rattle.guard.proofs.Delivering.{state_same, unread, screened_out, decided_on}
 
 -- ## The making
 

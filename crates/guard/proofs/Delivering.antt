@@ -1,18 +1,16 @@
 -- The three ways of a delivery are the machine's step, and so lawful after every history.
-use Rattle.std.proofs.Common.{◌≡◌, ℕ, ◌+◌, Bool, true, false, cond, not, ◌&&◌, leb, List, [], ◌∷◌, Some, None, Ok, Err, Option, Result, sym, refl, ap, ◌∙◌, subst}
+use Rattle.std.proofs.Common.{◌≡◌, ℕ, Bool, true, cond, List, ◌∷◌, Ok, Err, Option, sym, ap, ◌∙◌}
 use Rattle.refusal.specs.declared.Refusal.{Refusal}
-use Rattle.refusal.specs.Report.{report}
 use Rattle.sessions.specs.declared.types.Session.{Session}
 use Rattle.parties.specs.Commands.{Command}
 use Rattle.records.specs.declared.types.Entry.{Entry}
 use Rattle.records.specs.declared.types.Certificate.{Certificate}
 use Rattle.actions.specs.Arguments.{Arguments}
 use Rattle.machine.specs.Requests.{Delivery, presented, signed_of, reading, kind_asked}
-use Rattle.machine.specs.Machine.{State, Answer, accepted, is_accepted, is_consumed, and_then, by_session, screened, decided, judged, answer, owners_after, entries_after, certificates_after, sessions_after, base_after, number_used, sessions_used, command_asked, done_after, last_after, changed_by, changed}
-use Rattle.machine.specs.History.{Event, History}
-use Rattle.machine.specs.Law.{AtEveryMoment, Came, Lived}
+use Rattle.machine.specs.Machine.{State, Answer, accepted, is_accepted, is_consumed, and_then, screened, decided, judged, answer, owners_after, entries_after, certificates_after, sessions_after, base_after, number_used, command_asked, done_after, last_after, changed_by, changed}
+use Rattle.machine.specs.Law.{Came}
 use Rattle.machine.proofs.Lawfulness.{lawful_always}
-use Rattle.guard.specs.Call.{Stepped, event, then, LawfulOn}
+use Rattle.guard.specs.Call.{Stepped, event, LawfulOn}
 use Rattle.guard.proofs.Steps.{screened_early, decided_late}
 
 -- ## A state by its fields

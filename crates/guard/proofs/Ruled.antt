@@ -1,12 +1,11 @@
 -- What the two rules of every table answer and leave.
-use Rattle.std.proofs.Common.{◌≡◌, ℕ, Bool, true, false, cond, not, ltb, List, [], ◌∷◌, ◌++◌, length, Ok, Err, Option, sym, refl, ap, ◌∙◌, arith}
+use Rattle.std.proofs.Common.{◌≡◌, ℕ, Bool, true, false, cond, ltb, List, [], ◌∷◌, ◌++◌, length, Ok, Err, sym, refl, ap, ◌∙◌, arith}
 use Rattle.refusal.specs.declared.Refusal.TheVariants.{AlreadyListed, TableFull, NotListed}
-use Rattle.tables.specs.declared.types.Appended.{Appended}
 use Rattle.tables.specs.declared.types.Appended.TheVariants.{Done, Full}
 use Rattle.tables.specs.Kept.{append_answer, appended, removed_found}
 use Rattle.tables.specs.Place.{position}
-use Rattle.machine.specs.Lists.{any_of, without}
-use Rattle.machine.specs.Machine.{Answer, accepted, is_accepted, passing, listing}
+use Rattle.machine.specs.Lists.{without}
+use Rattle.machine.specs.Machine.{accepted, passing, listing}
 use Rattle.guard.proofs.Finding.{removed_is_without}
 
 module _ {X : Type 0} (listed : Bool) (xs : List X) (n : ℕ) where

@@ -1,5 +1,5 @@
 -- The ways through stages 2 and 3.
-use Rattle.std.proofs.Common.{◌≡◌, ℕ, Bool, true, false, cond, eqb, ◌⊎◌, Ok, Err, sym, refl, ap, ◌∙◌, inl, inr}
+use Rattle.std.proofs.Common.{◌≡◌, true, false, cond, ◌⊎◌, Err, sym, ap, ◌∙◌, inl, inr}
 use Rattle.std.proofs.lemmas.Bool.{eq-eqb, ne_eqb}
 use Rattle.refusal.specs.declared.Refusal.TheVariants.{OtherControlNumber, WrongKind}
 use Rattle.wire.specs.declared.types.Kind.{Kind}

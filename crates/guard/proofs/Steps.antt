@@ -1,7 +1,6 @@
 -- What the parts of a delivery make together: the machine's step.
-use Rattle.std.proofs.Common.{◌≡◌, ℕ, ◌+◌, Bool, true, false, cond, not, ◌&&◌, eqb, ltb, leb, List, [], ◌∷◌, ◌++◌, length, Some, None, Ok, Err, Option, Result, sym, refl, ap, ◌∙◌, subst, arith}
+use Rattle.std.proofs.Common.{◌≡◌, ℕ, Bool, true, false, cond, not, eqb, ltb, leb, List, length, Some, None, Err, Option, sym, refl, ap, ◌∙◌, subst, arith}
 use Rattle.std.specs.Str.{bytes_eq}
-use Rattle.std.proofs.lemmas.Bool.{true≢false, false≢true}
 use Rattle.refusal.specs.declared.Refusal.{Refusal}
 use Rattle.refusal.specs.declared.Refusal.TheVariants.{OtherControlNumber, WrongKind, NoSession, BadTag, StaleNumber, OtherBase, BaseExhausted, NotAuthorised, OtherDevice, BadIssuerTag, RevokesItself, NotListed, AlreadyListed, TableFull, NotTaken}
 use Rattle.refusal.specs.Report.{report}
@@ -12,9 +11,9 @@ use Rattle.records.specs.declared.types.Entry.{Entry}
 use Rattle.records.specs.declared.types.Certificate.{Certificate}
 use Rattle.records.specs.Equality.{same_entry, same_certificate}
 use Rattle.machine.specs.Lists.{first_of, any_of}
-use Rattle.machine.specs.Requests.{Presented, Signed, time_of, kind_asked}
+use Rattle.machine.specs.Requests.{Presented, time_of}
 use Rattle.machine.specs.Delegation.{is_owner, authorised}
-use Rattle.machine.specs.Machine.{State, Answer, accepted, is_accepted, is_consumed, passing, listing, and_then, by_session, is_kind, signs, screened_by_session, screened_by_key, screened, tables_of, owner_limit, entry_limit, certificate_limit, decided}
+use Rattle.machine.specs.Machine.{State, Answer, accepted, is_consumed, passing, listing, by_session, is_kind, signs, screened_by_session, screened_by_key, screened, tables_of, owner_limit, entry_limit, certificate_limit, decided}
 
 -- ## What is screened out stops early
 

@@ -7,7 +7,7 @@ use Rattle.parties.specs.declared.command.Performed.{Performed}
 use Rattle.parties.specs.Commands.{Command, is_taken}
 use Rattle.actions.specs.Arguments.{Arguments}
 use Rattle.machine.specs.Requests.{Meaning, Delivery, Presented, Signed, reading}
-use Rattle.machine.specs.Machine.{State, Answer, is_accepted, answer, changed, owners_after, entries_after, certificates_after, sessions_after, command_asked}
+use Rattle.machine.specs.Machine.{State, Answer, is_accepted, owners_after, entries_after, certificates_after, sessions_after, command_asked}
 use Rattle.guard.specs.declared.types.Guard.{Guard}
 
 abbrev pub view : Guard → ℕ → Option Command → State

@@ -1,6 +1,5 @@
 -- A table and the record of answers agree on what is in force, through every change.
-use Rattle.std.proofs.Common.{◌≡◌, Bool, true, false, ◌⊎◌, List, [], ◌∷◌, ◌++◌, map, sym, refl, ap, ◌∙◌, subst, inl, inr}
-use Rattle.std.proofs.lemmas.Bool.{true≢false}
+use Rattle.std.proofs.Common.{◌≡◌, Bool, true, false, ◌⊎◌, List, [], ◌∷◌, ◌++◌, sym, refl, subst, inl, inr}
 use Rattle.machine.specs.Lists.{Member, Distinct, without}
 use Rattle.machine.specs.History.{Change, Change.nothing, Change.adds, Change.removes, Change.empties, StillInForce}
 use Rattle.machine.proofs.Members.{member_appended, appended_member, distinct_appended, without_member, member_without, distinct_without, without_gone}

@@ -1,15 +1,15 @@
 -- The test of authorisation decides the relation, for chains of any length.
-use Rattle.std.proofs.Common.{◌≡◌, ℕ, zero, suc, ◌+◌, ◌≤◌, Bool, true, false, ◌&&◌, ◌||◌, ◌⊎◌, List, [], ◌∷◌, length, Decides, sym, refl, ap, ◌∙◌, subst, inl, inr, arith}
+use Rattle.std.proofs.Common.{◌≡◌, ℕ, zero, suc, ◌+◌, ◌≤◌, Bool, true, ◌&&◌, ◌||◌, ◌⊎◌, List, [], ◌∷◌, length, Decides, sym, refl, ap, ◌∙◌, subst, inl, inr, arith}
 use Rattle.std.specs.Str.{bytes_eq}
 use Rattle.std.proofs.lemmas.Slice.Eq.{bytes_eq-Decides}
-use Rattle.std.proofs.lemmas.Bool.{true≢false, false≢true, or_cases, or_left, or_right, and_parts, and_from}
+use Rattle.std.proofs.lemmas.Bool.{false≢true, or_cases, or_left, or_right, and_parts, and_from}
 use Rattle.records.specs.declared.types.Scope.{Scope}
 use Rattle.records.specs.declared.types.Entry.{Entry}
 use Rattle.records.specs.declared.types.Certificate.{Certificate}
 use Rattle.records.specs.Applicability.{applicable, Applicable}
 use Rattle.records.proofs.Applying.{test_decides_for_names}
-use Rattle.machine.specs.Lists.{Member, any_of, all_of}
-use Rattle.machine.specs.Delegation.{InForce, DelegationChain, DelegationChain.last_link, DelegationChain.link, Link, Entered, MayDelegate, Root, ByChain, Authorised, any_apart, delegates, Tables, is_owner, is_entered, may_begin, flagged, may_issue, authorised, kept_in, TheTestDecidesAuthorisation}
+use Rattle.machine.specs.Lists.{Member, any_of}
+use Rattle.machine.specs.Delegation.{DelegationChain, DelegationChain.last_link, DelegationChain.link, Link, Entered, Root, ByChain, Authorised, any_apart, delegates, Tables, is_owner, is_entered, may_begin, flagged, may_issue, authorised, kept_in, TheTestDecidesAuthorisation}
 use Rattle.machine.proofs.Members.{any_passes, passes_any, all_passing, passing_all, member_some}
 
 -- ## One record and the others

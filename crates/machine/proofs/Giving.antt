@@ -1,5 +1,5 @@
 -- The service does the command that it is given and takes, and no other.
-use Rattle.std.proofs.Common.{◌≡◌, ℕ, Bool, true, false, cond, List, Some, None, Ok, Err, Option, Result, refl}
+use Rattle.std.proofs.Common.{◌≡◌, Bool, true, false, cond, None, Ok, Err, Option, Result, refl}
 use Rattle.refusal.specs.declared.Refusal.{Refusal}
 use Rattle.refusal.specs.declared.Refusal.TheVariants.{NotAuthorised, NotTaken}
 use Rattle.parties.specs.Commands.{Command}

@@ -1,11 +1,10 @@
 -- What an answer of the machine says of the delivery.
-use Rattle.std.proofs.Common.{◌≡◌, ℕ, ◌+◌, ◌<◌, Bool, true, false, cond, not, ◌&&◌, eqb, ltb, leb, ◌⊎◌, List, [], ◌∷◌, length, take, drop, Some, None, Ok, Err, Option, Result, sym, refl, ap, ◌∙◌, subst, inl, inr, arith}
+use Rattle.std.proofs.Common.{◌≡◌, ℕ, ◌+◌, ◌<◌, Bool, true, false, cond, ◌&&◌, eqb, ltb, leb, List, [], ◌∷◌, length, take, drop, Some, None, Ok, Err, Option, Result, sym, refl, ◌∙◌, subst, arith}
 use Rattle.std.proofs.lemmas.Bool.{true≢false, false≢true, ltb-true, eqb-true, and_parts}
 use Rattle.refusal.specs.declared.Refusal.{Refusal}
-use Rattle.refusal.specs.declared.Refusal.TheVariants.{Malformed, UnknownAction, OtherControlNumber, WrongKind, NoSession, BadTag, StaleNumber, OtherBase, BaseExhausted}
+use Rattle.refusal.specs.declared.Refusal.TheVariants.{Malformed, UnknownAction, OtherControlNumber, WrongKind, BadTag, StaleNumber, OtherBase, BaseExhausted}
 use Rattle.refusal.specs.Report.{report}
 use Rattle.permission.specs.Reading.{is_name}
-use Rattle.records.specs.declared.types.Certificate.{Certificate}
 use Rattle.records.specs.Records.{certificate_in}
 use Rattle.sessions.specs.declared.types.Session.{Session}
 use Rattle.wire.specs.declared.types.Kind.{Kind}
@@ -17,8 +16,8 @@ use Rattle.actions.specs.Codes.{action_of}
 use Rattle.actions.specs.Arguments.{Arguments, Arguments.take_ownership, Arguments.set_session_keys, Arguments.expire_session_keys, Arguments.grant_ownership, Arguments.revoke_ownership, Arguments.add_entry, Arguments.delete_entry, Arguments.cache_certificate, Arguments.factory_security_reset, Arguments.perform, arguments_in, made_of, bytes_in, nothing_in, caching_of, caching_in, performing_of, perform_in, longest_payload, certificate_length}
 use Rattle.actions.specs.Arguments.{or_malformed as sound_or}
 use Rattle.machine.specs.Lists.{first_of}
-use Rattle.machine.specs.Requests.{Delivery, text_of, tag_of, signed_of, presented, or_malformed, asked_by, reading_in, reading, kind_asked}
-use Rattle.machine.specs.Machine.{State, Answer, accepted, is_accepted, is_consumed, passing, and_then, by_session, is_kind, signs, largest, screened_by_session, screened_by_key, screened, decided, judged, answer}
+use Rattle.machine.specs.Requests.{Delivery, text_of, tag_of, signed_of, presented, or_malformed, asked_by, reading_in, reading}
+use Rattle.machine.specs.Machine.{State, Answer, accepted, is_accepted, is_consumed, passing, and_then, by_session, is_kind, signs, largest, screened_by_session, screened_by_key, screened}
 
 -- ## Answers
 

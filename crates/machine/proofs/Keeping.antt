@@ -1,5 +1,5 @@
 -- The tables of owners, entries and certificates agree with the record through every answer.
-use Rattle.std.proofs.Common.{◌≡◌, ℕ, ◌+◌, ◌<◌, ◌≤◌, Bool, true, false, cond, not, ◌&&◌, eqb, ltb, ◌⊎◌, List, [], ◌∷◌, ◌++◌, length, Some, None, Ok, Decides, Option, sym, refl, ap, ◌∙◌, subst, inl, inr, arith}
+use Rattle.std.proofs.Common.{◌≡◌, ℕ, ◌+◌, ◌<◌, ◌≤◌, Bool, true, false, cond, not, ◌&&◌, eqb, ltb, List, [], ◌∷◌, length, Some, Ok, Decides, sym, refl, ◌∙◌, subst, arith}
 use Rattle.std.specs.Str.{bytes_eq}
 use Rattle.std.proofs.lemmas.Slice.Eq.{bytes_eq-Decides}
 use Rattle.std.proofs.lemmas.List.{length-append}
@@ -15,9 +15,9 @@ use Rattle.machine.specs.Lists.{Member, any_of, without}
 use Rattle.machine.specs.Requests.{Delivery, text_of, signed_of, presented}
 use Rattle.machine.specs.Delegation.{is_owner}
 use Rattle.machine.specs.Machine.{State, accepted, is_accepted, passing, listing, proof_text, owner_limit, entry_limit, certificate_limit, decided, owners_after, entries_after, certificates_after}
-use Rattle.machine.specs.History.{Event, signed_in, granted_in, granted, owners_by, owner_change, Owner, entries_by, entry_change, EntryInForce, certificates_by, certificate_change, CertificateInForce}
+use Rattle.machine.specs.History.{Event, granted_in, granted, owners_by, owner_change, Owner, entries_by, entry_change, EntryInForce, certificates_by, certificate_change, CertificateInForce}
 use Rattle.machine.specs.Law.{gained_by, lost_by, owned_by}
-use Rattle.machine.proofs.Members.{passes_any, no_member, length_without, member_without, member_some, decided_false}
+use Rattle.machine.proofs.Members.{passes_any, no_member, length_without, member_without, member_some}
 use Rattle.machine.proofs.Agreeing.{Agree, Names, Applies, agree_changed}
 use Rattle.machine.proofs.Delegating.{is_owner_decides}
 use Rattle.machine.proofs.Judging.{accepted_passing}

@@ -1,22 +1,21 @@
 -- The law, by an invariant between the state and the record.
-use Rattle.std.proofs.Common.{◌≡◌, ℕ, ◌+◌, ◌<◌, ◌≤◌, Bool, true, false, cond, not, ◌&&◌, ◌⊎◌, List, [], ◌∷◌, map, Some, None, Ok, Err, Option, Result, sym, refl, ap, ◌∙◌, subst, inl, inr, arith}
+use Rattle.std.proofs.Common.{◌≡◌, ℕ, ◌+◌, ◌<◌, Bool, true, false, cond, not, ◌&&◌, List, [], ◌∷◌, map, Some, None, Ok, Err, Option, Result, sym, refl, ap, ◌∙◌, subst, inl, inr, arith}
 use Rattle.std.proofs.lemmas.Bool.{true≢false, false≢true}
 use Rattle.refusal.specs.declared.Refusal.{Refusal}
 use Rattle.sessions.specs.Opened.{name_of}
 use Rattle.parties.specs.Commands.{Command, command}
 use Rattle.wire.specs.declared.types.Kind.{Kind}
-use Rattle.wire.specs.Envelope.{key_number, sequence_number, signer, kind_of}
+use Rattle.wire.specs.Envelope.{key_number, sequence_number, signer}
 use Rattle.actions.specs.Arguments.{Arguments, Arguments.take_ownership, Arguments.set_session_keys, Arguments.expire_session_keys, Arguments.grant_ownership, Arguments.revoke_ownership, Arguments.add_entry, Arguments.delete_entry, Arguments.cache_certificate, Arguments.factory_security_reset, Arguments.perform}
-use Rattle.machine.specs.Lists.{Member}
-use Rattle.machine.specs.Requests.{Delivery, text_of, signed_of, presented, reading, kind_asked}
+use Rattle.machine.specs.Requests.{Delivery, signed_of, presented, reading, kind_asked}
 use Rattle.machine.specs.Delegation.{Authorised}
-use Rattle.machine.specs.Machine.{State, Answer, is_accepted, is_consumed, by_session, signs, and_then, screened, decided, judged, answer, command_asked, done_after, last_after, base_after, changed_by, changed}
-use Rattle.machine.specs.History.{Event, Making, History, signed_in, session_name, Consumed, granted_in, granted, Owner, EntryInForce, CertificateInForce, Established, OpenedWith.before, Fresh, owner_change, owners_by, entry_change, entries_by, certificate_change, certificates_by, session_change, sessions_by, in_force, WellFormedPerform, Due, command_of}
-use Rattle.machine.specs.Law.{Dues, LatestDue, done_now, last_now, NeverConsumed, ConsumedOnce, gained_by, lost_by, owned_by, gains, losses, is_owned, Ownership, Lawful, AtEveryMoment, start, state_after, Came, Lived, TheLawHoldsAtEveryMoment, NoCommandIsDoneForWhoIsNotAuthorised}
-use Rattle.machine.proofs.Agreeing.{Agree, Applies, agree_none, agree_changed}
-use Rattle.machine.proofs.Judging.{consumed_first, accepted_both, accepted_consumed, unread_early, Screened, screened_facts, BySession, session_facts, key_facts, by_session_kind}
+use Rattle.machine.specs.Machine.{State, is_accepted, is_consumed, by_session, signs, and_then, screened, decided, judged, answer, command_asked, done_after, last_after, changed_by, changed}
+use Rattle.machine.specs.History.{Event, Making, signed_in, session_name, Consumed, granted_in, granted, Owner, EntryInForce, CertificateInForce, Established, OpenedWith.before, Fresh, owner_change, owners_by, entry_change, entries_by, certificate_change, certificates_by, session_change, sessions_by, in_force, WellFormedPerform, Due, command_of}
+use Rattle.machine.specs.Law.{Dues, LatestDue, done_now, last_now, NeverConsumed, ConsumedOnce, gained_by, lost_by, owned_by, gains, losses, is_owned, Lawful, AtEveryMoment, start, state_after, Came, Lived, TheLawHoldsAtEveryMoment, NoCommandIsDoneForWhoIsNotAuthorised}
+use Rattle.machine.proofs.Agreeing.{Applies, agree_none, agree_changed}
+use Rattle.machine.proofs.Judging.{consumed_first, accepted_both, accepted_consumed, unread_early, Screened, screened_facts, by_session_kind}
 use Rattle.machine.proofs.Numbering.{first_found, names_decides, ConsumedBelow, below_more, never_by_session, never_by_key}
-use Rattle.machine.proofs.Opening.{Sound, SessionsOk, sessions_step, by_key, when_by_session, base_grows}
+use Rattle.machine.proofs.Opening.{sessions_step, by_key, when_by_session, base_grows}
 use Rattle.machine.proofs.Keeping.{OwnersCounted, owners_step, entries_step, certificates_step, counts_step}
 use Rattle.machine.proofs.Performing.{TablesAgree, done_is_due, due_is_done, same_name, same_payload}
 

@@ -1,17 +1,13 @@
 -- Sessions by the record: whose key is which, which numbers are fresh, and that no signed text is consumed twice.
-use Rattle.std.proofs.Common.{◌≡◌, ℕ, ◌+◌, ◌<◌, ◌≤◌, Bool, true, false, cond, ◌&&◌, eqb, ◌⊎◌, List, [], ◌∷◌, ◌++◌, map, Some, None, Decides, Option, sym, refl, ap, ◌∙◌, subst, inl, inr, arith}
+use Rattle.std.proofs.Common.{◌≡◌, ℕ, ◌<◌, ◌≤◌, Bool, true, false, cond, ◌&&◌, eqb, ◌⊎◌, List, [], ◌∷◌, ◌++◌, map, Some, Decides, sym, refl, ap, ◌∙◌, subst, inl, inr, arith}
 use Rattle.std.specs.Str.{bytes_eq}
 use Rattle.std.proofs.lemmas.Slice.Eq.{bytes_eq-Decides}
-use Rattle.std.proofs.lemmas.Bool.{true≢false, false≢true, eqb-true, eq-eqb, and_parts, and_from}
-use Rattle.sessions.specs.declared.types.Session.{Session}
+use Rattle.std.proofs.lemmas.Bool.{true≢false, eqb-true, eq-eqb, and_parts, and_from}
 use Rattle.sessions.specs.declared.types.SessionName.{SessionName}
-use Rattle.sessions.specs.Opened.{name_of, with_last}
 use Rattle.wire.specs.declared.types.Kind.TheVariants.{Session as Session'}
 use Rattle.wire.specs.Envelope.{key_number, sequence_number, signer, kind_of}
-use Rattle.actions.specs.Arguments.{Arguments, Arguments.set_session_keys}
 use Rattle.machine.specs.Lists.{Member, Distinct, first_of, without, with_first}
-use Rattle.machine.specs.Machine.{signs}
-use Rattle.machine.specs.History.{Event, signed_in, session_name, Consumed, SignedBySession, granted, OpenedWith, OpenedWith.here, OpenedWith.before, Fresh}
+use Rattle.machine.specs.History.{Event, signed_in, Consumed, OpenedWith, OpenedWith.here, OpenedWith.before, Fresh}
 use Rattle.machine.specs.Law.{NeverConsumed}
 
 -- ## Lists

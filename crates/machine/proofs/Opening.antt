@@ -1,21 +1,19 @@
 -- The session table agrees with the record through every answer.
-use Rattle.std.proofs.Common.{◌≡◌, ℕ, ◌+◌, ◌<◌, ◌≤◌, Bool, true, false, cond, not, ◌&&◌, ◌⊎◌, List, [], ◌∷◌, ◌++◌, map, Some, None, Ok, Option, sym, refl, ap, ◌∙◌, subst, inl, inr, arith}
-use Rattle.std.proofs.lemmas.Bool.{true≢false, false≢true}
+use Rattle.std.proofs.Common.{◌≡◌, ℕ, ◌+◌, ◌<◌, ◌≤◌, Bool, true, false, cond, not, ◌&&◌, List, [], ◌∷◌, ◌++◌, map, Some, None, Ok, Option, sym, refl, ap, ◌∙◌, subst, inl, inr, arith}
+use Rattle.std.proofs.lemmas.Bool.{true≢false}
 use Rattle.sessions.specs.declared.types.Session.{Session}
-use Rattle.sessions.specs.declared.types.SessionName.{SessionName}
 use Rattle.sessions.specs.Opened.{name_of, with_last}
 use Rattle.wire.specs.declared.types.Kind.{Kind}
-use Rattle.wire.specs.declared.types.Kind.TheVariants.{Session as Session'}
-use Rattle.wire.specs.Envelope.{key_number, sequence_number, signer, kind_of}
+use Rattle.wire.specs.Envelope.{key_number, sequence_number}
 use Rattle.actions.specs.Arguments.{Arguments, Arguments.take_ownership, Arguments.set_session_keys, Arguments.expire_session_keys, Arguments.grant_ownership, Arguments.revoke_ownership, Arguments.add_entry, Arguments.delete_entry, Arguments.cache_certificate, Arguments.factory_security_reset, Arguments.perform}
 use Rattle.machine.specs.Lists.{Member, first_of, without, with_first}
-use Rattle.machine.specs.Requests.{text_of, signed_of, presented, reading, kind_asked}
-use Rattle.machine.specs.Machine.{State, is_accepted, is_consumed, by_session, signs, screened_by_session, screened_by_key, sessions_after, new_session, base_after, number_used}
-use Rattle.machine.specs.History.{Event, Change.nothing, Change.adds, Change.removes, Change.empties, signed_in, session_name, Consumed, SignedBySession, granted_in, granted, sessions_by, session_change, Established, OpenedWith, OpenedWith.here, OpenedWith.before, Fresh}
+use Rattle.machine.specs.Requests.{signed_of, presented, reading, kind_asked}
+use Rattle.machine.specs.Machine.{State, is_consumed, by_session, signs, screened_by_session, screened_by_key, sessions_after, new_session, base_after, number_used}
+use Rattle.machine.specs.History.{Event, Change.nothing, signed_in, session_name, Consumed, SignedBySession, granted_in, granted, sessions_by, session_change, Established, OpenedWith, OpenedWith.here, OpenedWith.before, Fresh}
 use Rattle.machine.proofs.Members.{without_member, member_appended}
 use Rattle.machine.proofs.Agreeing.{Agree, Applies, agree_changed}
 use Rattle.machine.proofs.Judging.{Screened, BySession, session_facts, key_facts, by_session_kind, by_key_kind}
-use Rattle.machine.proofs.Numbering.{member_map, map_member, map_appended, map_without, map_with_first, with_first_member, first_found, name_for, names_it, names_decides, fresh_positive, fresh_new, ConsumedBelow}
+use Rattle.machine.proofs.Numbering.{map_member, map_appended, map_without, map_with_first, with_first_member, first_found, name_for, names_it, names_decides, fresh_positive, fresh_new, ConsumedBelow}
 
 -- a number is fresh in a session exactly if it is above the session's last
 abbrev pub Counted : List Event → Session → Type 0

@@ -1,28 +1,25 @@
 -- The machine has the service do a Perform exactly if the record makes it due.
-use Rattle.std.proofs.Common.{◌≡◌, ℕ, ◌<◌, Bool, true, false, cond, eqb, ltb, ◌⊎◌, List, [], ◌∷◌, map, Some, None, Ok, Err, Decides, Option, sym, refl, ap, ◌∙◌, subst, inl, inr, arith}
-use Rattle.std.proofs.lemmas.Bool.{true≢false, false≢true, lt-ltb, eq-eqb}
+use Rattle.std.proofs.Common.{◌≡◌, ℕ, Bool, true, eqb, ltb, List, Ok, Decides, sym, ap, ◌∙◌, subst, inl, inr}
+use Rattle.std.proofs.lemmas.Bool.{lt-ltb, eq-eqb}
 use Rattle.refusal.specs.declared.Refusal.TheVariants.{OtherControlNumber, WrongKind, BadTag, StaleNumber, NotAuthorised, NotTaken}
 use Rattle.permission.proofs.Names.{is_name_decides}
-use Rattle.sessions.specs.declared.types.Session.{Session}
-use Rattle.sessions.specs.declared.types.SessionName.{SessionName}
 use Rattle.sessions.specs.Opened.{name_of}
 use Rattle.records.specs.declared.types.Scope.{Scope}
-use Rattle.records.specs.declared.types.Certificate.{Certificate}
 use Rattle.records.specs.Applicability.{applicable, Applicable}
 use Rattle.records.proofs.Applying.{test_decides_for_names}
 use Rattle.wire.specs.declared.types.Kind.TheVariants.{Session as Session'}
-use Rattle.wire.specs.Envelope.{control_number, key_number, sequence_number, signer, kind_of}
-use Rattle.actions.specs.Arguments.{Arguments, Arguments.perform}
-use Rattle.machine.specs.Lists.{Member, first_of}
-use Rattle.machine.specs.Requests.{text_of, tag_of, signed_of, presented, reading, kind_asked}
-use Rattle.machine.specs.Delegation.{InForce, DelegationChain, DelegationChain.last_link, DelegationChain.link, Link, Entered, MayDelegate, Root, ByChain, Authorised, authorised, kept_in}
-use Rattle.machine.specs.Machine.{State, tables_of, Answer, accepted, is_accepted, is_consumed, passing, and_then, is_kind, signs, screened_by_session, screened_by_key, screened, decided, judged, answer}
-use Rattle.machine.specs.History.{Event, signed_in, session_name, Owner, EntryInForce, CertificateInForce, Established, OpenedWith, Fresh, in_force, WellFormedPerform, Due}
+use Rattle.wire.specs.Envelope.{control_number, sequence_number, signer, kind_of}
+use Rattle.actions.specs.Arguments.{Arguments.perform}
+use Rattle.machine.specs.Lists.{first_of}
+use Rattle.machine.specs.Requests.{tag_of, signed_of, presented, reading}
+use Rattle.machine.specs.Delegation.{InForce, DelegationChain, DelegationChain.last_link, DelegationChain.link, Link, Entered, Root, Authorised, authorised, kept_in}
+use Rattle.machine.specs.Machine.{State, tables_of, accepted, is_accepted, passing, and_then, is_kind, signs, screened_by_session, screened, decided, judged, answer}
+use Rattle.machine.specs.History.{Event, signed_in, session_name, Owner, EntryInForce, CertificateInForce, Established, OpenedWith, Fresh, in_force, Due}
 use Rattle.machine.proofs.Agreeing.{Agree}
 use Rattle.machine.proofs.Delegating.{authorised_decides}
-use Rattle.machine.proofs.Judging.{accepted_passing, passing_true, accepted_both, accepted_consumed, performs_a_name, kind_is, Screened, screened_facts, BySession, session_facts}
-use Rattle.machine.proofs.Numbering.{map_member, member_map, first_found, found_first, name_for, names_decides, opened_unique}
-use Rattle.machine.proofs.Opening.{Sound, SessionsOk}
+use Rattle.machine.proofs.Judging.{accepted_passing, passing_true, accepted_both, accepted_consumed, performs_a_name, screened_facts, session_facts}
+use Rattle.machine.proofs.Numbering.{map_member, member_map, first_found, found_first, names_decides, opened_unique}
+use Rattle.machine.proofs.Opening.{SessionsOk}
 
 -- ## Authorisation by what is in force and by what is kept
 

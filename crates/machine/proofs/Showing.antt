@@ -1,7 +1,7 @@
 -- The example: that the machine can have it, by computing, and what is due in it, by the law's lemmas.
-use Rattle.std.proofs.Common.{◌≡◌, ℕ, Bool, true, false, cond, ◌⊎◌, List, [], ◌∷◌, ◌++◌, Ok, Err, codes, sym, refl, ap, ◌∙◌, subst, inl, inr}
+use Rattle.std.proofs.Common.{◌≡◌, ℕ, Bool, true, false, List, [], ◌∷◌, Ok, sym, refl, ap, ◌∙◌, subst, inl, inr}
 use Rattle.std.proofs.lemmas.Bool.{true≢false}
-use Rattle.permission.specs.Reading.{is_name, text_in, set_in, term_of, covering}
+use Rattle.permission.specs.Reading.{text_in, set_in, term_of, covering}
 use Rattle.permission.specs.Names.{IsName}
 use Rattle.permission.proofs.Names.{is_name_decides}
 use Rattle.keyhash.specs.Base64.{text, spelled}
@@ -19,10 +19,10 @@ use Rattle.actions.specs.Arguments.{Arguments.perform, bytes_in, nothing_in, cac
 use Rattle.machine.specs.Lists.{Member}
 use Rattle.machine.specs.Delegation.{Entered, is_owner, is_entered, authorised, delegates, kept_in}
 use Rattle.machine.specs.Requests.{reading_in, reading}
-use Rattle.machine.specs.Machine.{State, tables_of, is_accepted, answer, changed, screened, decided}
-use Rattle.machine.specs.History.{Event, Making, Owner, CertificateInForce, in_force, Due}
+use Rattle.machine.specs.Machine.{tables_of, is_accepted, answer, changed, screened}
+use Rattle.machine.specs.History.{Making, Owner, CertificateInForce, in_force, Due}
 use Rattle.machine.specs.Law.{done_now, state_after, Came}
-use Rattle.machine.specs.Example.{Attempt, event_of, played, sealed, key, scope, making, to_agent, to_guest, opened_by_owner, owner_switches, opened_by_tenant, tenant_switches, cached_by_guest, guest_switches, opened_by_partner, partner_switches, revoked_by_owner, partner_tries_again, whole, past, event_after, name, AnExampleShowsWhatIsDue}
+use Rattle.machine.specs.Example.{Attempt, played, sealed, key, scope, making, to_agent, to_guest, opened_by_owner, owner_switches, opened_by_tenant, tenant_switches, cached_by_guest, guest_switches, opened_by_partner, partner_switches, revoked_by_owner, partner_tries_again, whole, past, event_after, name, AnExampleShowsWhatIsDue}
 use Rattle.machine.proofs.Delegating.{is_owner_decides, entered_decides}
 use Rattle.machine.proofs.Performing.{TablesAgree, in_force_included, entered_included, done_is_due, due_is_done}
 use Rattle.machine.proofs.Lawfulness.{tables_after}

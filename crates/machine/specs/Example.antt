@@ -1,5 +1,5 @@
 -- A history that the machine can have.
-use Rattle.std.specs.Prelude.{◌≡◌, ℕ, ◌*◌, Bool, true, false, List, [], ◌∷◌, ◌++◌, length, take, replicate, Some, None, codes, Option}
+use Rattle.std.specs.Prelude.{◌≡◌, ℕ, ◌*◌, Bool, true, false, List, [], ◌∷◌, ◌++◌, length, take, replicate, None, codes}
 use Rattle.std.specs.Str.{bytes_eq}
 use Rattle.keyhash.specs.Element.{element}
 use Rattle.records.specs.declared.types.Scope.{Scope}

@@ -1,6 +1,6 @@
 -- The history of a guard, as a record of what was delivered and answered, and what is read off it. Nothing here speaks of the
 -- machine's state: an auditor can judge these definitions by the record alone.
-use Rattle.std.specs.Prelude.{◌≡◌, ℕ, ◌+◌, ◌<◌, Bool, true, false, cond, ◌&&◌, ◌⊎◌, List, [], ◌∷◌, Some, None, Ok, Err, Option, Result, ◌≢◌}
+use Rattle.std.specs.Prelude.{◌≡◌, ℕ, ◌<◌, Bool, true, false, ◌⊎◌, List, [], ◌∷◌, Some, None, Ok, Err, Option, Result, ◌≢◌}
 use Rattle.refusal.specs.declared.Refusal.{Refusal}
 use Rattle.sessions.specs.declared.types.SessionName.{SessionName}
 use Rattle.parties.specs.Commands.{Command, command}

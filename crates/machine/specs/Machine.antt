@@ -2,7 +2,7 @@
 use Rattle.std.specs.Prelude.{◌≡◌, ℕ, ◌+◌, Bool, true, false, cond, not, ◌&&◌, List, [], ◌∷◌, ◌++◌, length, Some, None, Ok, Err, Option, Result, ◌==◌, nat_le, nat_lt}
 use Rattle.std.specs.Str.{bytes_eq}
 use Rattle.refusal.specs.declared.Refusal.{Refusal}
-use Rattle.refusal.specs.declared.Refusal.TheVariants.{Malformed, OtherControlNumber, WrongKind, NoSession, BadTag, StaleNumber, OtherBase, BaseExhausted, NotAuthorised, OtherDevice, BadIssuerTag, RevokesItself, NotListed, AlreadyListed, TableFull, NotTaken}
+use Rattle.refusal.specs.declared.Refusal.TheVariants.{OtherControlNumber, WrongKind, NoSession, BadTag, StaleNumber, OtherBase, BaseExhausted, NotAuthorised, OtherDevice, BadIssuerTag, RevokesItself, NotListed, AlreadyListed, TableFull, NotTaken}
 use Rattle.refusal.specs.Report.{report}
 use Rattle.sessions.specs.declared.types.Session.{Session}
 use Rattle.sessions.specs.Opened.{with_last}

@@ -1,5 +1,5 @@
 -- The fields of an envelope are those of its signed text.
-use Rattle.std.proofs.Common.{◌≡◌, ℕ, zero, suc, ◌+◌, ◌≤◌, Bool, true, false, cond, List, [], ◌∷◌, length, take, drop, Some, None, Ok, Err, Option, Result, sym, refl, ap, ◌∙◌, subst, arith}
+use Rattle.std.proofs.Common.{◌≡◌, ℕ, zero, suc, ◌+◌, ◌≤◌, Bool, true, false, cond, List, [], ◌∷◌, take, drop, Some, None, Ok, Err, Option, Result, sym, refl, ap, ◌∙◌, arith}
 use Rattle.std.specs.Int.Digits.{number_from_digits}
 use Rattle.std.proofs.lemmas.List.{take-take}
 use Rattle.std.proofs.lemmas.Bool.{cond-true, cond-false}
@@ -7,7 +7,7 @@ use Rattle.refusal.specs.declared.Refusal.{Refusal}
 use Rattle.refusal.specs.declared.Refusal.TheVariants.{Malformed, UnknownAction}
 use Rattle.wire.specs.declared.types.Kind.{Kind}
 use Rattle.wire.specs.declared.types.Kind.TheVariants.{Unmarked}
-use Rattle.wire.specs.Envelope.{number_at, kind_of, kind_in, kind_or, key_number_place, sequence_place, signer_place, action_code, control_number, key_number, sequence_number, signer, tag_place, arguments, signed_text, tag, sound_header}
+use Rattle.wire.specs.Envelope.{number_at, kind_of, kind_in, kind_or, action_code, signer, tag_place, signed_text, sound_header}
 use Rattle.wire.specs.Header.{Header, header_of, header_in}
 use Rattle.wire.proofs.Headers.{header_decided}
 use Rattle.actions.specs.declared.types.Action.{Action}

@@ -1,4 +1,4 @@
-use Rattle.std.proofs.Common.{true, sym}
+use Rattle.std.proofs.Common.{sym}
 use Rattle.tables.specs.Kept.{kept}
 use Rattle.delegation.specs.Given.{listed}
 use Rattle.delegation.proofs.Chains.{owner_answered, entry_answered, chain_answered}

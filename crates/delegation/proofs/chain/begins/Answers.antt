@@ -1,8 +1,6 @@
 use Rattle.std.proofs.Common.{[], sym, ◌∙◌, arith}
-use Rattle.records.specs.declared.types.Certificate.{Certificate}
 use Rattle.machine.specs.Delegation.{may_begin}
 use Rattle.delegation.specs.Given.{listed}
-use Rattle.delegation.specs.Marks.{any_leading}
 use Rattle.delegation.proofs.Walks.{leading_is_here, leading_is_past, leading_is_over}
 use Rattle.delegation.proofs.chain.begins.Goals as goal
 

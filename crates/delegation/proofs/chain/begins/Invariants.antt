@@ -1,5 +1,4 @@
-use Rattle.std.proofs.Common.{◌≡◌, Bool, [], drop}
-use Rattle.records.specs.declared.types.Certificate.{Certificate}
+use Rattle.std.proofs.Common.{◌≡◌, [], drop}
 use Rattle.machine.specs.Delegation.{may_begin}
 use Rattle.delegation.specs.Given.{listed}
 use Rattle.delegation.specs.Marks.{any_leading}

@@ -1,7 +1,6 @@
 use Rattle.std.proofs.Common.{◌≡◌, ◌<◌, sym, ◌∙◌, arith}
-use Rattle.std.specs.Int.Digits.{AllBelowBase}
 use Rattle.std.proofs.ByRecursion.{All-from_get_or}
-use Rattle.delegation.proofs.Words.{word, words_tell}
+use Rattle.delegation.proofs.Words.{words_tell}
 use Rattle.delegation.proofs.hashes.is_same.Goals as goal
 
 pub returns : goal.returns

@@ -1,4 +1,4 @@
-use Rattle.std.proofs.Common.{◌≡◌, false, sym, refl}
+use Rattle.std.proofs.Common.{false, sym, refl}
 use Rattle.tables.specs.Kept.{kept}
 use Rattle.guard.proofs.listing.list.Goals as goal
 use Rattle.guard.proofs.Ruled.{again, new, new_after, no_room, no_room_after}

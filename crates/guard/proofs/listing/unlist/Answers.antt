@@ -1,4 +1,4 @@
-use Rattle.std.proofs.Common.{◌≡◌, sym, refl}
+use Rattle.std.proofs.Common.{sym, refl}
 use Rattle.tables.specs.Kept.{kept}
 use Rattle.tables.specs.Place.{named}
 use Rattle.guard.proofs.listing.unlist.Goals as goal

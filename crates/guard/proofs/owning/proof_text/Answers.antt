@@ -1,4 +1,4 @@
-use Rattle.std.proofs.Common.{◌≡◌, ℕ, ◌+◌, List, ◌++◌, length, take, sym, ap, ◌∙◌, subst, rules}
+use Rattle.std.proofs.Common.{◌≡◌, ◌+◌, ◌++◌, length, ap, ◌∙◌, rules}
 use Rattle.records.specs.Records.{big_endian}
 use Rattle.records.specs.Numbers.{length-big_endian}
 use Rattle.guard.proofs.owning.proof_text.Goals as goal

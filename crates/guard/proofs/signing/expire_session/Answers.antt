@@ -1,4 +1,4 @@
-use Rattle.std.proofs.Common.{◌≡◌, ap, ◌∙◌}
+use Rattle.std.proofs.Common.{ap, ◌∙◌}
 use Rattle.tables.specs.Kept.{removed_found}
 use Rattle.sessions.specs.Opened.{opened, name_of, same_name}
 use Rattle.tables.specs.Place.{position, named}

@@ -1,6 +1,4 @@
-use Rattle.std.proofs.Common.{◌≡◌, sym, ap, ◌∙◌}
 use Rattle.sessions.specs.Opened.{opened}
-use Rattle.machine.specs.Requests.{Signed}
 use Rattle.guard.proofs.signing.find_session.Goals as goal
 use Rattle.guard.proofs.Finding.{none_found, none_there, one_there}
 

@@ -1,4 +1,4 @@
-use Rattle.std.proofs.Common.{◌≡◌, sym, ap, ◌∙◌}
+use Rattle.std.proofs.Common.{ap, ◌∙◌}
 use Rattle.wire.specs.Views.{header}
 use Rattle.actions.specs.Codes.{action_of}
 use Rattle.actions.specs.Arguments.{arguments_in}

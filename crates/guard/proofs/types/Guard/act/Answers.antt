@@ -1,4 +1,4 @@
-use Rattle.std.proofs.Common.{◌≡◌, sym, refl, ap, ◌∙◌, rules}
+use Rattle.std.proofs.Common.{sym, ap, ◌∙◌, rules}
 use Rattle.actions.specs.Views.{saying}
 use Rattle.machine.specs.Machine.{decided, command_asked}
 use Rattle.requests.specs.Received.{signed_by}

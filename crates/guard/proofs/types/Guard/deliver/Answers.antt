@@ -1,4 +1,4 @@
-use Rattle.std.proofs.Common.{◌≡◌, sym, refl, ap, ◌∙◌}
+use Rattle.std.proofs.Common.{refl}
 use Rattle.actions.specs.Views.{saying}
 use Rattle.requests.specs.Received.{signed_by}
 use Rattle.guard.specs.View.{meaning}

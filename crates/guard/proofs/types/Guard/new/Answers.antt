@@ -1,4 +1,4 @@
-use Rattle.std.proofs.Common.{◌≡◌, refl}
+use Rattle.std.proofs.Common.{refl}
 use Rattle.guard.proofs.types.Guard.new.Goals as goal
 use Rattle.guard.proofs.Calls.{begins}
 

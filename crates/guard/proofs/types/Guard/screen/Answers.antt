@@ -1,8 +1,6 @@
-use Rattle.std.proofs.Common.{◌≡◌, true, false, cond, sym, refl, ap, ◌∙◌, subst, rules}
+use Rattle.std.proofs.Common.{sym, ◌∙◌}
 use Rattle.std.proofs.lemmas.Bool.{true≢false}
-use Rattle.machine.specs.Lists.{first_of}
-use Rattle.machine.specs.Machine.{by_session, signs, screened_by_session, screened_by_key}
-use Rattle.guard.specs.View.{alone, presenting, meaning, unplaced}
+use Rattle.guard.specs.View.{alone}
 use Rattle.guard.proofs.types.Guard.screen.Goals as goal
 use Rattle.guard.proofs.Screens.{other_control, wrong_kind, passed_on, session_way, key_way, no_session}
 
