@@ -1,7 +1,7 @@
 -- What reading and writing of records owe each other.
 use Rattle.std.specs.Prelude.{◌≡◌, ℕ, ◌^◌, ◌<◌, ◌≤◌, List, length, Ok, Err, Result, ◌≢◌}
 use Rattle.std.specs.Int.Digits.{AllBelowBase}
-use Rattle.std.specs.List.{AllByRecursion as All}
+use Rattle.std.specs.List.{AllByRecursion}
 use Rattle.refusal.specs.declared.Refusal.{Refusal}
 use Rattle.refusal.specs.declared.Refusal.TheVariants.{Malformed}
 use Rattle.permission.specs.Answers.{SomeWellFormedTerm}
@@ -38,7 +38,7 @@ pub record WellFormedScope (s : Scope) : Type 0 where
   pub window : s.not_before ≤ s.not_after
   pub term_within : s.term_length ≤ 48
   pub term : SomeWellFormedTerm (term_bytes s)
-  pub filled_with_zeros : All (λ b. b ≡ 0) (filling s)
+  pub filled_with_zeros : AllByRecursion (λ b. b ≡ 0) (filling s)
 
 -- records of one size, and a reader and a writer of them that are each other's inverse
 pub record Inverse {R : Type 0} (size : ℕ) (Fits WellFormed : R → Type 0) (write : R → List ℕ) (read : List ℕ → Result R Refusal) : Type 0 where

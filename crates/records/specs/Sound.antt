@@ -1,6 +1,6 @@
 -- The tests of a scope decide whether it is well formed.
 use Rattle.std.specs.Prelude.{◌≡◌, ℕ, ◌≤◌, List, Decides, nat_eq, nat_le, refl}
-use Rattle.std.specs.List.{AllByRecursion as All}
+use Rattle.std.specs.List.{AllByRecursion}
 use Rattle.std.proofs.lemmas.Bool.{leb-true, le-leb}
 use Rattle.std.proofs.lemmas.Bool.Decides.{Decides-and, Decides-like, Decides-eqb}
 use Rattle.std.proofs.ByRecursion.{Decides-by_and}
@@ -12,7 +12,7 @@ use Rattle.records.specs.Inverse.{WellFormedScope}
 pub decides_leb : (a b : ℕ) → Decides (nat_le a b) (a ≤ b)
 decides_leb a b = (leb-true a b, le-leb a b)
 
-all_zero_decides : (bytes : List ℕ) → Decides (all_zero bytes) (All (λ b. b ≡ 0) bytes)
+all_zero_decides : (bytes : List ℕ) → Decides (all_zero bytes) (AllByRecursion (λ b. b ≡ 0) bytes)
 all_zero_decides = Decides-by_and (λ b. nat_eq b 0) (λ b. b ≡ 0) all_zero (λ b. Decides-eqb b 0) refl (λ _ _. refl)
 
 pub sound_scope_decides : (s : Scope) → Decides (sound_scope s) (WellFormedScope s)
