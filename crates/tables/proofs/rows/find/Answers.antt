@@ -7,7 +7,7 @@ use Rattle.tables.proofs.rows.find.Goals as goal
 pub returns-then-has_key : goal.returns-then-has_key
 returns-then-has_key g c =
     let here = sym (position_is_here (named g.T.Record.key g.T.Record.equal c.args.key.now) _ _ _ c.loop-i-test.true c.index-rows-i.is (sym c.if-has_key.ensures)) ∙ c.loop-i.invariant in
-    record { position = here; first_place = key_is_first_place g.T.Record.key g.T.Record.equal g.met.T.Record.decides _ _ _ here }
+    record { position = cc; first_place = key_is_first_place g.T.Record.key g.T.Record.equal g.met.T.Record.decides _ _ _ (cc) }
 
 pub loop-i-preserved : goal.loop-i-preserved
 loop-i-preserved g c =

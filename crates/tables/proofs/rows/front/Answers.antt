@@ -7,5 +7,5 @@ returns g c =
     record {
       front =
           ap (λ k. take k c.args.rows.now) {x = c.min.result - 0} {y = c.min.result} (omega arith)
-          ∙ take_is_front c.args.rows.now c.args.len c.min.result c.min.ensures;
+          ∙ take_is_front c.args.rows.now c.args.len c.min.result (omega arith);
     }

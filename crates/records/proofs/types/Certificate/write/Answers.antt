@@ -1,4 +1,4 @@
-use Rattle.std.proofs.Common.{◌≡◌, ◌≤◌, ◌++◌, length, take, sym, ap, ◌∙◌, rules}
+use Rattle.std.proofs.Common.{◌≡◌, ◌≤◌, ◌++◌, length, take, sym, ap, ◌∙◌, arith, rules}
 use Rattle.std.proofs.lemmas.List.{take_all}
 use Rattle.records.specs.Records.{certificate_bytes, certificate_in}
 use Rattle.records.specs.Inverse.{CertificateFits}
@@ -10,9 +10,9 @@ use Rattle.records.proofs.types.Certificate.write.Goals as goal
 pub returns : goal.returns
 returns c =
     let x = c.args.self.now in
-    let one : take c.put-at.result c.put-at.new.out ≡ x.issuer = ap (λ n. take n c.put-at.new.out) c.put-at.ensures.end ∙ c.put-at.ensures.front in
-    let two = part_after c.put-at.new.out c.put-at-2.new.out x.subject c.put-at.result c.put-at-2.result one c.put-at-2.ensures.end c.put-at-2.ensures.front in
-    let three = part_after c.put-at-2.new.out c.put-at-3.new.out x.device c.put-at-2.result c.put-at-3.result two c.put-at-3.ensures.end c.put-at-3.ensures.front in
+    let one : take c.put-at.result c.put-at.new.out ≡ x.issuer = ap (λ n. take n c.put-at.new.out) c.put-at.ensures.end ∙ cc in
+    let two = part_after c.put-at.new.out c.put-at-2.new.out x.subject c.put-at.result c.put-at-2.result one (omega arith) (cc) in
+    let three = part_after c.put-at-2.new.out c.put-at-3.new.out x.device c.put-at-2.result c.put-at-3.result two (omega arith) (cc) in
     let four = part_after c.put-at-3.new.out c.put.new.out c.write.result c.put-at-3.result c.put.result three c.put.ensures.end c.put.ensures.front in
     let whole : length c.put.new.out ≤ c.put.result = search rules in
     let defined : c.put.new.out ≡ certificate_bytes x =

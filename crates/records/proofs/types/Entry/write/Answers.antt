@@ -10,7 +10,7 @@ use Rattle.records.proofs.types.Entry.write.Goals as goal
 pub returns : goal.returns
 returns c =
     let e = c.args.self.now in
-    let one : take c.put-at.result c.put-at.new.out ≡ e.subject = ap (λ n. take n c.put-at.new.out) c.put-at.ensures.end ∙ c.put-at.ensures.front in
+    let one : take c.put-at.result c.put-at.new.out ≡ e.subject = ap (λ n. take n c.put-at.new.out) c.put-at.ensures.end ∙ cc in
     let two = part_after c.put-at.new.out c.put.new.out c.write.result c.put-at.result c.put.result one c.put.ensures.end c.put.ensures.front in
     let whole : length c.put.new.out ≤ c.put.result = search rules in
     let defined : c.put.new.out ≡ entry_bytes e = sym (take_all c.put.result c.put.new.out whole) ∙ two ∙ ap (λ bs. e.subject ++ bs) c.write.ensures.as_defined ∙ entry_bytes_are e in
