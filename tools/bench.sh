@@ -3,8 +3,9 @@
 # OpenSSL's figures for SHA-1 where its command is at hand.
 set -eu
 cd "$(dirname "$0")/.."
-rt staticlib webfront >/dev/null
-rt staticlib bench_entries >/dev/null
+for name in webfront bench_entries; do
+    (cd "crates/$name" && rt lib >/dev/null)
+done
 cargo run --quiet --release --offline --manifest-path tools/bench/Cargo.toml
 if command -v openssl >/dev/null; then
     for bytes in 64 1024 1048576; do
