@@ -1,5 +1,7 @@
 // Drives the services and the verifiers through the statements of its input, one to a line, and prints what each answers.
 // Bytes are in hexadecimal, `-` for none; a name stands as it is, `-` for none.
+#![tactic(auto)]
+
 mod commands;
 mod tags;
 mod words;

@@ -1,5 +1,6 @@
-// Runs the cases of its input, one to a line, and writes what the crate `sha1` answers to each.
+// Runs the cases of its input, one to a line, and writes what the crate `sha1_hmac` answers to each.
 // A text or a key is in hexadecimal, `-` for none: `sha1 TEXT`, `repeat COUNT TEXT` or `hmac KEY TEXT`.
+#![tactic(auto)]
 
 mod cases;
 mod hex;

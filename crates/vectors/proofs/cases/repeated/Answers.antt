@@ -6,9 +6,9 @@ use Rattle.vectors.proofs.cases.repeated.Goals as goal
 
 pub loop-i-preserved : goal.loop-i-preserved
 loop-i-preserved c =
-    subst (λ n. Absorbed c.update.new.self (copies n c.args.text.now)) (sym (add-one c.loop-i.-i)) (c.update.ensures.absorbs _ c.loop-i.invariant)
+    subst (λ n. Absorbed c.update.new.self (copies n c.args.text.now)) (sym (add-one c.loop-i._i)) (c.update.ensures.absorbs _ c.loop-i.invariant)
 
 pub returns : goal.returns
 returns c =
-    let all : c.loop-i.-i ≡ c.args.count = omega arith in
+    let all : c.loop-i._i ≡ c.args.count = omega arith in
     c.finish.ensures.digests _ c.loop-i.invariant ∙ ap (λ n. digest (copies n c.args.text.now)) all

@@ -3,4 +3,4 @@ use Rattle.vectors.specs.Copies.{copies}
 use Rattle.vectors.proofs.cases.repeated.Given as goal
 
 abbrev pub invariant-loop-i : goal.invariant-loop-i
-invariant-loop-i l = Absorbed l.state (copies l.-i l.text)
+invariant-loop-i l = Absorbed l.state (copies l._i l.text)
