@@ -1,8 +1,9 @@
 -- In a sorted list equal hashes stand together, so a hash that came more than once follows itself.
 use Rattle.std.proofs.Common.{◌≡◌, ℕ, suc, ◌+◌, ◌-◌, ◌<◌, ◌≤◌, Bool, true, false, cond, leb, List, [], ◌∷◌, ◌++◌, length, get_or, take, drop, sum_by, Ordering, Less, Equal, Greater, sym, refl, ap, ◌∙◌, subst, true≢false, arith}
-use Rattle.std.specs.Cmp.{nat_cmp_total, ranks, rank}
-use Rattle.std.specs.Cmp.Lexicographic.{lexical}
-use Rattle.std.specs.Ordering.{is_lt, is_gt, ordering_reverse, ordering_then, MatchOrdering}
+use Rattle.std.specs.Cmp.Lexicographic.{slice_cmp}
+use Rattle.std.specs.Ordering.{is_lt, ordering_reverse, nat_cmp}
+use Rattle.std.proofs.lemmas.Cmp.{nat_list_cmp_total}
+use Rattle.std.proofs.lemmas.Map.Lookups.{exact_bytes}
 use Rattle.std.specs.List.Sorted.{IsSortedWithin, IsPermutation}
 use Rattle.std.specs.Str.{bytes_eq}
 use Rattle.std.proofs.lemmas.List.MinMax.{ranks_by}
@@ -63,28 +64,17 @@ listed_once hash current listed (next ∷ rest) g =
     ∙ step listed b p q (times hash rest) (times hash again) (times hash other) same apart (λ e. listed_once hash current true rest (as-next e)) (listed_once hash next false rest g.1)
     ∙ sym (expected_is listed hash current (next ∷ rest))
 
-equal_from_lex : (xs ys : List ℕ) → (lexical nat_cmp_total).cmp xs ys ≡ Equal → xs ≡ ys
-equal_from_lex [] [] e = refl
-equal_from_lex [] (y ∷ ys) e = absurd (true≢false (ap is_lt e))
-equal_from_lex (x ∷ xs) [] e = absurd (true≢false (ap is_gt e))
-equal_from_lex (x ∷ xs) (y ∷ ys) e = by (rank x y) (ranks x y) e (equal_from_lex xs ys)
-  where
-    by : (k : Ordering) → MatchOrdering k (x < y) (x ≡ y) (y < x) → ordering_then k ((lexical nat_cmp_total).cmp xs ys) ≡ Equal → ((lexical nat_cmp_total).cmp xs ys ≡ Equal → xs ≡ ys) → x ∷ xs ≡ y ∷ ys
-    by Less r f rest = absurd (true≢false (ap is_lt f))
-    by Equal r f rest = let t = rest f in cc
-    by Greater r f rest = absurd (true≢false (ap is_gt f))
-
 -- no hash is below one that stands before it
 abbrev lt : List ℕ → List ℕ → Bool
-lt x y = is_lt ((lexical nat_cmp_total).cmp x y)
+lt x y = is_lt (slice_cmp nat_cmp x y)
 
 equal_from_both : (x y : List ℕ) → lt x y ≡ false → lt y x ≡ false → x ≡ y
-equal_from_both x y e f = by ((lexical nat_cmp_total).cmp x y) refl
+equal_from_both x y e f = by (slice_cmp nat_cmp x y) refl
   where
-    by : (k : Ordering) → (lexical nat_cmp_total).cmp x y ≡ k → x ≡ y
+    by : (k : Ordering) → slice_cmp nat_cmp x y ≡ k → x ≡ y
     by Less g = absurd (true≢false (sym (ap is_lt g) ∙ e))
-    by Equal g = equal_from_lex x y g
-    by Greater g = absurd (true≢false (sym (ap is_lt ((lexical nat_cmp_total).flip y x ∙ ap ordering_reverse g)) ∙ f))
+    by Equal g = exact_bytes x y g
+    by Greater g = absurd (true≢false (sym (ap is_lt (nat_list_cmp_total.antisymm y x ∙ ap ordering_reverse g)) ∙ f))
 
 -- a hash that some list has none of
 no_times : (hash : List ℕ) (xs : List (List ℕ)) → ((k : ℕ) → k < length xs → hash ≡ get_or xs k [] → ⊥) → times hash xs ≡ 0
@@ -112,7 +102,7 @@ grouped_from_sorted hash (next ∷ rest) up = (
 )
 
 sorted_from_ascends : (xs : List (List ℕ)) (n : ℕ) → length xs ≡ n → IsSortedWithin lt xs 0 n → Sorted xs
-sorted_from_ascends xs n e up i j l m = sorted_far lt (ranks_by (lexical nat_cmp_total) (λ x. x)) xs (subst (IsSortedWithin lt xs 0) (sym e) up) i j [] l m
+sorted_from_ascends xs n e up i j l m = sorted_far lt (ranks_by nat_list_cmp_total (λ x. x)) xs (subst (IsSortedWithin lt xs 0) (sym e) up) i j [] l m
 
 times_is : (hash : List ℕ) (xs : List (List ℕ)) → times hash xs ≡ sum_by (one_if hash) xs
 times_is hash [] = refl

@@ -47,7 +47,7 @@ fn repeats_among(heap: Global, hashes: &[[u8; 20]]) -> Result<Vec<[u8; 20]>, All
     ensures { IfOk result (λ v. ListsEachRepeatedHashOnce hashes.now v.items) }
 {
     let mut sorted = Vec::from_slice(heap, hashes)?;
-    sorted.sort();
+    sorted.sort_unstable();
     repeats_in(heap, sorted.as_slice())
 }
 

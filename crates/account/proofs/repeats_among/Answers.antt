@@ -1,6 +1,4 @@
-use Rattle.std.proofs.Common.{◌≡◌, ℕ, List, vec_items, sym, ap, ◌∙◌, subst}
-use Rattle.std.specs.Cmp.{nat_cmp_total}
-use Rattle.std.specs.Cmp.Lexicographic.{lexical}
+use Rattle.std.proofs.Common.{◌≡◌, ℕ, List, vec_items, sym, refl, ap, ◌∙◌, subst}
 use Rattle.std.specs.List.Sorted.{IsPermutation}
 use Rattle.std.proofs.lemmas.Result.{IfOk-weaker}
 use Rattle.account.specs.Repeats.{ListsEachRepeatedHashOnce, repeats}
@@ -10,11 +8,10 @@ use Rattle.account.proofs.repeats_among.Goals as goal
 pub returns : goal.returns
 returns c =
     let hashes = c.args.hashes.now in
-    let sorted = vec_items c.sort.new.self in
+    let sorted = vec_items c.sort_unstable.new.self in
     let copied = c.in_ok-sorted.ensures.items in
-    let moved = subst (λ (xs : List (List ℕ)). IsPermutation xs (vec_items c.sort.new.self)) copied c.sort.ensures.permutation in
-    let long = sym c.sort.new.self.ok.0 ∙ c.sort.ensures.len in
-    let lists = sorted_repeats hashes sorted _ moved long (c.sort.ensures.sorted (lexical nat_cmp_total)) in
+    let moved = subst (λ (xs : List (List ℕ)). IsPermutation xs (vec_items c.sort_unstable.new.self)) copied c.sort_unstable.ensures.permutation in
+    let lists = sorted_repeats hashes sorted _ moved refl c.sort_unstable.ensures.sorted in
     IfOk-weaker c.repeats_in.result (λ v. vec_items v ≡ repeats c.as_slice.result.now) (λ v. ListsEachRepeatedHashOnce c.args.hashes.now (vec_items v))
     (λ v e. subst (ListsEachRepeatedHashOnce hashes) (sym (e ∙ ap repeats c.as_slice.ensures.value)) lists)
     c.repeats_in.ensures

@@ -1,6 +1,6 @@
-use Rattle.std.proofs.Common.{◌-◌, ◌<◌, true, false, List, [], ◌∷◌, ◌++◌, length, get_or, take, drop, vec_items, sym, refl, ap, ◌∙◌, rules}
+use Rattle.std.proofs.Common.{◌-◌, ◌<◌, false, [], ◌∷◌, ◌++◌, length, get_or, take, drop, vec_items, sym, refl, ap, ◌∙◌, rules}
 use Rattle.std.proofs.lemmas.List.{append-nil, at_drop_all}
-use Rattle.std.proofs.lemmas.Slice.Eq.{slice_eq-Decides}
+use Rattle.std.proofs.lemmas.Slice.Eq.{bytes_eq-Decides}
 use Rattle.std.proofs.lemmas.Slice.{pushed}
 use Rattle.std.proofs.lemmas.Bool.Decides.{not_from_Decides}
 use Rattle.account.specs.Repeats.{repeats_after}
@@ -16,17 +16,17 @@ loop-hash-init c =
 pub loop-hash-preserved : goal.loop-hash-preserved
 loop-hash-preserved c =
     let rest = take (length c.args.sorted.now - 1) (drop 1 c.args.sorted.now) in
-    let same = slice_eq-Decides c.loop-hash.current (get_or rest c.loop-hash.hash-index []) c.eq.result c.eq.ensures in
+    let same = bytes_eq-Decides c.loop-hash.current (get_or rest c.loop-hash.hash-index []) in
     elim c.if-eq.branch [
       | then-eq+then-not-listed+in_ok-push w ↦
           at_a_second c.loop-hash.current c.loop-hash.listed rest c.loop-hash.hash-index c.loop-hash-test.true _ _ c.loop-hash.invariant _ _ _
-          (same.0 w.if-eq.true) w.if-not-listed.true (ap vec_items w.out-is ∙ pushed (c.loop-hash.current ∷ []) refl w.in_ok-push.was w.push.ensures.items) w.current-is w.listed-is
+          (same.0 (sym w.if-eq.ensures)) w.if-not-listed.true (ap vec_items w.out-is ∙ pushed (c.loop-hash.current ∷ []) refl w.in_ok-push.was w.push.ensures.items) w.current-is w.listed-is
       | then-eq+else-not-listed w ↦
           at_a_listed c.loop-hash.current c.loop-hash.listed rest c.loop-hash.hash-index c.loop-hash-test.true _ _ c.loop-hash.invariant _ _ _
-          (same.0 w.if-eq.true) w.if-not-listed.false (ap vec_items w.out-is) w.current-is w.listed-is
+          (same.0 (sym w.if-eq.ensures)) w.if-not-listed.false (ap vec_items w.out-is) w.current-is w.listed-is
       | else-eq w ↦
           at_another c.loop-hash.current c.loop-hash.listed rest c.loop-hash.hash-index c.loop-hash-test.true _ _ c.loop-hash.invariant _ _ _
-          (not_from_Decides _ same w.if-eq.false) (ap vec_items w.out-is) w.current-is w.listed-is
+          (not_from_Decides _ same (sym w.if-eq.ensures)) (ap vec_items w.out-is) w.current-is w.listed-is
     ]
 
 pub returns : goal.returns
