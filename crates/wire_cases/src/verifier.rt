@@ -1,6 +1,7 @@
 // A public verifier whose tags are shorter than those of the session verifier.
 ghost use Rattle.std.specs.Prelude.{false};
-ghost use Rattle.std.proofs.Common.{rules};
+ghost use Rattle.std.proofs.Common.{refl};
+ghost use Rattle.std.proofs.lemmas.Bool.{leb-true};
 
 use parties::verifier::Verifier;
 
@@ -13,7 +14,7 @@ impl Verifier for SixteenBytes {
 
     ghost stands = { λ _ _ _ _. false };
 
-    ghost from_1_to_20_bytes = { Prim.search rules };
+    ghost from_1_to_20_bytes = { (leb-true 1 16 refl, leb-true 16 20 refl) };
 
     fn tag_width() -> usize {
         Self::TAG_LENGTH
