@@ -1,14 +1,14 @@
 #!/bin/sh
-# Says how the checker refused each must-fail edit of the last `rt ci` or `rt must-fail`, by its log, and counts the kinds.
+# Usage: rt must-fail [NAME..] 2>&1 | tools/refusals.sh
+# Says how the checker refused each must-fail edit, by what `rt must-fail` or `rt ci` prints of it, and counts the kinds.
 set -eu
-cd "$(dirname "$0")/../target/must-fail"
-for log in */*/.log; do
-    edit=${log%/.log}
-    if grep -q 'fails, for all that is known there' "$log"; then kind='values'
-    elif grep -q "^[^ ]*$edit/proofs/[^ ]*: error" "$log"; then kind='answer'
-    elif grep -q 'stopped at one of its bounds' "$log"; then kind='bounds'
-    else kind='not closed'
-    fi
+grep '^rt: must-fail .*: refused' | while read -r line; do
+    edit=$(echo "$line" | sed 's/^rt: must-fail \([^:]*\): .*/\1/')
+    case "$line" in
+        *'allow values at wh'*) kind='values' ;;
+        *'./proofs/'*': error'*) kind='answer' ;;
+        *'gave up at one of its'*) kind='bounds' ;;
+        *) kind='not closed' ;;
+    esac
     echo "$kind: $edit"
-done | sort
-for log in */*/.log; do echo "${log%/.log}"; done | wc -l
+done | sort -u | awk '{ print; split($0, a, ":"); count[a[1]]++ } END { for (k in count) print count[k], k }'
