@@ -1,13 +1,14 @@
 #!/bin/sh
 # Usage: rt must-fail [NAME..] 2>&1 | tools/refusals.sh
+# What it prints of an edit is cut short, so the words are looked for where they begin.
 # Says how the checker refused each must-fail edit, by what `rt must-fail` or `rt ci` prints of it, and counts the kinds.
 set -eu
 grep '^rt: must-fail .*: refused' | while read -r line; do
     edit=$(echo "$line" | sed 's/^rt: must-fail \([^:]*\): .*/\1/')
     case "$line" in
-        *'allow values at wh'*) kind='values' ;;
+        *'); the facts known'*) kind='values' ;;
         *'./proofs/'*': error'*) kind='answer' ;;
-        *'gave up at one of its'*) kind='bounds' ;;
+        *'); `search`'*) kind='bounds' ;;
         *) kind='not closed' ;;
     esac
     echo "$kind: $edit"
