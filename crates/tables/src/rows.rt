@@ -42,6 +42,7 @@ pub fn find<T: Record>(rows: &[T], key: &T::Key) -> Option<usize>
 
 // Writes the record behind the first `len`, where a place is free.
 pub fn append<T: Copy, const N: usize>(rows: &mut [T; N], len: usize, x: T)
+    ensures places { length rows.new ≡ N }
     ensures size { length rows.new ≡ length rows.old }
     ensures grown { len < N → take (len + 1) rows.new ≡ take len rows.old ++ x ∷ [] }
     ensures full { N ≤ len → rows.new ≡ rows.old }
