@@ -1,7 +1,7 @@
 #!/bin/sh
 # Usage: rt must-fail [NAME..] 2>&1 | tools/refusals.sh
-# What it prints of an edit is cut short, so the words are looked for where they begin.
 # Says how the checker refused each must-fail edit, by what `rt must-fail` or `rt ci` prints of it, and counts the kinds.
+# What it prints of an edit is cut short, so the words are looked for where they begin.
 set -eu
 grep '^rt: must-fail .*: refused' | while read -r line; do
     edit=$(echo "$line" | sed 's/^rt: must-fail \([^:]*\): .*/\1/')
