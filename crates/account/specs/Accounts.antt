@@ -1,6 +1,5 @@
 -- An account of the answers given.
-use Rattle.std.specs.Prelude.{ℕ, ◌+◌, ◌-◌, ◌^◌, min, List, [], ◌∷◌, ◌++◌, length, vec_items, codes, decimal}
-use Rattle.account.specs.declared.Account.{Account}
+use Rattle.std.specs.Prelude.{ℕ, ◌+◌, ◌-◌, ◌^◌, min, List, [], ◌∷◌, ◌++◌, length, codes, decimal}
 use Rattle.reply.specs.declared.Reply.{Reply}
 use Rattle.reply.specs.declared.Reply.TheVariants.{Hash, Malformed, Text, Covers, Digest, Mistaken}
 
@@ -27,10 +26,6 @@ noted t (Text value) = record { hashes = t.hashes; malformed = t.malformed; writ
 noted t (Covers answer) = record { hashes = t.hashes; malformed = t.malformed; written = t.written; judged = one_more t.judged; mistakes = t.mistakes }
 noted t (Digest value) = t
 noted t (Mistaken mistake) = record { hashes = t.hashes; malformed = t.malformed; written = t.written; judged = t.judged; mistakes = one_more t.mistakes }
-
--- what an account holds
-abbrev pub tally : Account → Tally
-tally a = record { hashes = vec_items a.hashes; malformed = a.malformed; written = a.written; judged = a.judged; mistakes = a.mistakes }
 
 -- counts as lines of commentary
 abbrev pub count_text : ℕ → ℕ → ℕ → ℕ → ℕ → List ℕ

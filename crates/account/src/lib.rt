@@ -2,11 +2,12 @@
 #![tactic(auto)]
 
 ghost use Rattle.std.specs.Prelude.{◌≡◌, ℕ, ◌+◌, ◌<◌, List, [], ◌∷◌, ◌++◌, is_ok, IfOk, if◌then◌else◌, vec_len, string_bytes, nat_lt};
-ghost use Rattle.account.specs.Accounts.{empty, noted, tally, count_text, count_lines};
+ghost use Rattle.account.specs.Accounts.{empty, noted, count_lines};
 ghost use Rattle.account.specs.Repeats.{ListsEachRepeatedHashOnce, repeats};
 
 use reply::Reply;
 use std::alloc::{AllocError, Global};
+use std::marker::Model;
 
 #[derive(Drop)]
 pub struct Account {
@@ -16,6 +17,15 @@ pub struct Account {
     written: u64,
     judged: u64,
     mistakes: u64,
+}
+
+impl Model for Account {
+    ghost use Rattle.std.specs.Prelude.{vec_items};
+    ghost use Rattle.account.specs.Accounts.{Tally};
+
+    ghost Value = { Tally };
+
+    ghost view = { λ a. record { hashes = vec_items a.hashes; malformed = a.malformed; written = a.written; judged = a.judged; mistakes = a.mistakes } };
 }
 
 // The hashes that equal the one before them, each once, where equal ones stand together.
@@ -51,26 +61,10 @@ fn repeats_among(heap: Global, hashes: &[[u8; 20]]) -> Result<Vec<[u8; 20]>, All
     repeats_in(heap, sorted.as_slice())
 }
 
-// Counts as lines of commentary.
-fn count_lines(
-    heap: Global,
-    read: usize,
-    malformed: u64,
-    written: u64,
-    judged: u64,
-    mistakes: u64,
-) -> Result<String, AllocError>
-    ensures { IfOk result (λ s. string_bytes s ≡ count_text read malformed written judged mistakes) }
-{
-    format!(in heap;
-        "# texts read as a hash: {read}\n# texts malformed: {malformed}\n# texts written: {written}\n# terms judged: {judged}\n# lines in error: {mistakes}\n"
-    )
-}
-
 impl Account {
     // An account of no answers.
     pub fn new(heap: Global) -> Account
-        ensures nothing_noted { tally result ≡ empty }
+        ensures nothing_noted { result ≡ empty }
     {
         Account {
             hashes: Vec::new(heap),
@@ -83,7 +77,7 @@ impl Account {
 
     // Counts one answer more. Where memory fails, the account stays as it was.
     pub fn note(&mut self, reply: &Reply) -> Result<(), AllocError>
-        ensures one_answer_more_or_unchanged { tally self.new ≡ (if is_ok result then noted (tally self.old) reply.now else tally self.old) }
+        ensures one_answer_more_or_unchanged { self.new ≡ (if is_ok result then noted self.old reply.now else self.old) }
     {
         match reply {
             Reply::Hash(hash) => self.hashes.push(*hash)?,
@@ -98,28 +92,31 @@ impl Account {
 
     // Whether a line was no statement.
     pub fn has_mistakes(&self) -> bool
-        ensures any_mistake { result ≡ nat_lt 0 (tally self.now).mistakes }
+        ensures any_mistake { result ≡ nat_lt 0 self.now.mistakes }
     {
         self.mistakes > 0
     }
 
     // The counts, as lines of commentary.
     pub fn counts(&self, heap: Global) -> Result<String, AllocError>
-        ensures counts_as_defined { IfOk result (λ s. string_bytes s ≡ count_lines (tally self.now)) }
+        ensures counts_as_defined { IfOk result (λ s. string_bytes s ≡ count_lines self.now) }
     {
-        count_lines(
-            heap,
-            self.hashes.len(),
-            self.malformed,
-            self.written,
-            self.judged,
-            self.mistakes,
+        let read = self.hashes.len();
+        let Account {
+            malformed,
+            written,
+            judged,
+            mistakes,
+            ..
+        } = self;
+        format!(in heap;
+            "# texts read as a hash: {read}\n# texts malformed: {malformed}\n# texts written: {written}\n# terms judged: {judged}\n# lines in error: {mistakes}\n"
         )
     }
 
     // The hashes that came more than once.
     pub fn repeated(&self, heap: Global) -> Result<Vec<[u8; 20]>, AllocError>
-        ensures lists_each_repeated_hash_once { IfOk result (λ v. ListsEachRepeatedHashOnce (tally self.now).hashes v.items) }
+        ensures lists_each_repeated_hash_once { IfOk result (λ v. ListsEachRepeatedHashOnce self.now.hashes v.items) }
     {
         repeats_among(heap, self.hashes.as_slice())
     }

@@ -9,14 +9,14 @@ use keyhash::element;
 use parties::verifier::Verifier;
 use records::{Certificate, Entry};
 use refusal::Refusal;
-
-const KEY_LENGTH: usize = 20;
+use wire::types::TagLengths;
 
 const CERTIFICATE_LENGTH: usize = 126;
 
 const LONGEST_PAYLOAD: usize = 512;
 
 // A tag of the session verifier.
+#[tactic(auto, unfolding(crate::specs::Arguments::bytes_in))]
 fn proof_in<'a>(bytes: &'a [u8], width: usize) -> Result<Arguments<'a>, Refusal>
     ensures { answered result ≡ bytes_in width take_ownership bytes.now }
 {
@@ -26,29 +26,26 @@ fn proof_in<'a>(bytes: &'a [u8], width: usize) -> Result<Arguments<'a>, Refusal>
     Ok(Arguments::TakeOwnership { proof: bytes })
 }
 
+#[tactic(auto, unfolding(crate::specs::Arguments::bytes_in))]
 fn key_in<'a>(bytes: &'a [u8]) -> Result<Arguments<'a>, Refusal>
     ensures { answered result ≡ bytes_in 20 set_session_keys bytes.now }
 {
-    if bytes.len() != KEY_LENGTH {
-        return Err(Refusal::Malformed);
-    }
-    let mut key = [0; KEY_LENGTH];
-    key.copy_from_slice(bytes);
-    Ok(Arguments::SetSessionKeys { key })
+    let key = bytes.as_array().ok_or(Refusal::Malformed)?;
+    Ok(Arguments::SetSessionKeys { key: *key })
 }
 
 // A certificate and a tag of the public verifier.
-fn certificate_in<'a>(bytes: &'a [u8], width: usize) -> Result<Arguments<'a>, Refusal>
-    requires { width ≤ 20 }
-    ensures { answered result ≡ caching_in width bytes.now }
+fn certificate_in<'a>(bytes: &'a [u8], lengths: TagLengths) -> Result<Arguments<'a>, Refusal>
+    ensures { answered result ≡ caching_in lengths.public bytes.now }
 {
-    if bytes.len() != CERTIFICATE_LENGTH + width {
+    if bytes.len() != CERTIFICATE_LENGTH + lengths.public {
         return Err(Refusal::Malformed);
     }
     let (signed, issuer_tag) = bytes.split_at(CERTIFICATE_LENGTH);
     caching(signed, issuer_tag)
 }
 
+#[tactic(auto, unfolding(crate::specs::Arguments::caching_of))]
 fn caching<'a>(bytes: &'a [u8], issuer_tag: &'a [u8]) -> Result<Arguments<'a>, Refusal>
     ensures { answered result ≡ caching_of bytes.now issuer_tag.now }
 {
@@ -75,6 +72,7 @@ fn command_in<'a>(bytes: &'a [u8]) -> Result<Arguments<'a>, Refusal>
     performing(name, payload)
 }
 
+#[tactic(auto, unfolding(crate::specs::Arguments::performing_of))]
 fn performing<'a>(name: &'a [u8], payload: &'a [u8]) -> Result<Arguments<'a>, Refusal>
     ensures { answered result ≡ performing_of name.now payload.now }
 {
@@ -85,27 +83,27 @@ fn performing<'a>(name: &'a [u8], payload: &'a [u8]) -> Result<Arguments<'a>, Re
 }
 
 // No bytes at all.
+#[tactic(auto, unfolding(crate::specs::Arguments::nothing_in))]
 fn nothing_in<'a>(bytes: &[u8], arguments: Arguments<'a>) -> Result<Arguments<'a>, Refusal>
     ensures { answered result ≡ nothing_in (saying arguments.entry) bytes.now }
 {
-    if bytes.len() != 0 {
-        return Err(Refusal::Malformed);
+    if bytes.is_empty() {
+        Ok(arguments)
+    } else {
+        Err(Refusal::Malformed)
     }
-    Ok(arguments)
 }
 
-// Reads the arguments, with the tag lengths of the session verifier and of the public verifier.
+// Reads the arguments, where the tags are so long.
 fn read_with<'a>(
     action: Action,
     bytes: &'a [u8],
-    session: usize,
-    public: usize,
+    lengths: TagLengths,
 ) -> Result<Arguments<'a>, Refusal>
-    requires { public ≤ 20 }
-    ensures { answered result ≡ arguments_in session public action bytes.now }
+    ensures { answered result ≡ arguments_in lengths.session lengths.public action bytes.now }
 {
     match action {
-        Action::TakeOwnership => proof_in(bytes, session),
+        Action::TakeOwnership => proof_in(bytes, lengths.session),
         Action::SetSessionKeys => key_in(bytes),
         Action::ExpireSessionKeys => nothing_in(bytes, Arguments::ExpireSessionKeys),
         Action::GrantOwnership => Ok(Arguments::GrantOwnership {
@@ -120,24 +118,10 @@ fn read_with<'a>(
         Action::DeleteAclEntry => Ok(Arguments::DeleteAclEntry {
             entry: Entry::read(bytes)?,
         }),
-        Action::CacheCertificate => certificate_in(bytes, public),
+        Action::CacheCertificate => certificate_in(bytes, lengths),
         Action::FactorySecurityReset => nothing_in(bytes, Arguments::FactorySecurityReset),
         Action::Perform => command_in(bytes),
     }
-}
-
-// The same, with the law of all arguments.
-fn read_for<'a>(
-    action: Action,
-    bytes: &'a [u8],
-    session: usize,
-    public: usize,
-) -> Result<Arguments<'a>, Refusal>
-    requires { public ≤ 20 }
-    ensures as_defined { answered result ≡ arguments_in session public action bytes.now }
-    ensures arguments_are_read_exactly { ReadExactly session public }
-{
-    read_with(action, bytes, session, public)
 }
 
 impl<'a> Arguments<'a> {
@@ -149,6 +133,6 @@ impl<'a> Arguments<'a> {
         ensures as_defined { answered result ≡ arguments_in S.Verifier.width P.Verifier.width action bytes.now }
         ensures arguments_are_read_exactly { ReadExactly S.Verifier.width P.Verifier.width }
     {
-        read_for(action, bytes, S::tag_width(), P::tag_width())
+        read_with(action, bytes, TagLengths::of::<S, P>())
     }
 }

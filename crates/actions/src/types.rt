@@ -1,18 +1,18 @@
 use records::{Certificate, Entry};
 
-// What an envelope can ask for.
-#[derive(Clone, Copy)]
+// What an envelope can ask for, and its code.
+#[derive(Clone, Copy, PartialEq, Eq, Debug)]
 pub enum Action {
-    TakeOwnership,
-    SetSessionKeys,
-    ExpireSessionKeys,
-    GrantOwnership,
-    RevokeOwnership,
-    AddAclEntry,
-    DeleteAclEntry,
-    CacheCertificate,
-    FactorySecurityReset,
-    Perform,
+    TakeOwnership = 0x01,
+    SetSessionKeys = 0x02,
+    ExpireSessionKeys = 0x03,
+    GrantOwnership = 0x04,
+    RevokeOwnership = 0x05,
+    AddAclEntry = 0x06,
+    DeleteAclEntry = 0x07,
+    CacheCertificate = 0x08,
+    FactorySecurityReset = 0x09,
+    Perform = 0x0A,
 }
 
 // What an action is given. Tags, names and payloads are parts of the envelope.

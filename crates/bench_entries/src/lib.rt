@@ -4,7 +4,7 @@
 ghost use Rattle.std.specs.Prelude.{◌≡◌, cond, eqb, length};
 ghost use Rattle.sha1_hmac.specs.Message.{digest as digest_of};
 
-// Writes the SHA-1 of `text` into `digest`. Answers 0, or 402 where `digest` is not 20 bytes and is left as it was.
+// Writes the SHA-1 of `text` into `digest`. Answers 0, or 402 where `digest` is not 20 bytes and is left as it was: C reads a number.
 #[unsafe(no_mangle)]
 pub extern "C" fn bench_sha1(text: &[u8], digest: &mut [u8]) -> u32
     ensures answer { result ≡ cond (eqb (length digest.old) 20) 0 402 }

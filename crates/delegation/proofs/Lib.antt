@@ -1,4 +1,3 @@
-pub mod Words
-pub mod Walks
-pub mod Following
 pub mod Chains
+pub mod Following
+pub mod Walks

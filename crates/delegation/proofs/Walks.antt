@@ -1,34 +1,38 @@
 -- Walks along a list of records.
-use Rattle.std.proofs.Common.{◌≡◌, ℕ, zero, suc, ◌+◌, ◌<◌, ◌≤◌, Bool, true, false, ◌&&◌, ◌||◌, List, [], ◌∷◌, length, get_or, take, drop, set, sym, refl, ap, ◌∙◌, add-one, arith}
-use Rattle.std.proofs.lemmas.List.{at_drop_more, at_drop_all}
+use Rattle.std.proofs.Common.{◌≡◌, ℕ, zero, suc, ◌+◌, ◌<◌, Bool, ◌&&◌, ◌||◌, List, [], ◌∷◌, length, get_or, take, set, ◌++◌, reverse, inl, inr, ◌-◌, sym, refl, ap, ◌∙◌, add-one, arith}
+use Rattle.std.specs.List.{list_any, zip}
+use Rattle.std.proofs.lemmas.Bool.{cases_lt}
+use Rattle.std.proofs.lemmas.List.{places, get_or-reverse}
+use Rattle.std.proofs.lemmas.List.Recursion.{same_from_clauses}
 use Rattle.records.specs.declared.types.Certificate.{Certificate}
-use Rattle.machine.specs.Lists.{any_of}
+use Rattle.machine.specs.Lists.{Member, any_of}
 use Rattle.delegation.specs.declared.types.Mark.{Mark}
 use Rattle.delegation.specs.Marks.{leads, marked, any_leading}
 
-module _ {X : Type 0} (test : X → Bool) (xs : List X) (i : ℕ) (d : X) (within : i < length xs) where
-  pub any_is_here : test (get_or xs i d) ≡ true → any_of test (drop i xs) ≡ true
-  any_is_here t = at_drop_more (any_of test) xs i d within ∙ ap (λ b. b || any_of test (drop (i + 1) xs)) t
+pub list_any_is : {X : Type 0} (test : X → Bool) (xs : List X) → list_any test xs ≡ any_of test xs
+list_any_is test xs = same_from_clauses (list_any test) (any_of test) (λ x b. test x || b) refl (λ x xs. refl) (λ x xs. refl) xs
 
-  pub any_is_past : test (get_or xs i d) ≡ false → any_of test (drop i xs) ≡ any_of test (drop (i + 1) xs)
-  any_is_past f = at_drop_more (any_of test) xs i d within ∙ ap (λ b. b || any_of test (drop (i + 1) xs)) f
+-- the certificates and the marks as pairs
+pub any_leading_zip : (test : Certificate → Bool) (cs : List Certificate) (ms : List Mark) → list_any (λ (p : Certificate × Mark). leads p.1 && test p.0) (zip cs ms) ≡ any_leading test cs ms
+any_leading_zip test [] ms = refl
+any_leading_zip test (c ∷ cs) [] = refl
+any_leading_zip test (c ∷ cs) (m ∷ ms) = ap (λ b. (leads m && test c) || b) (any_leading_zip test cs ms)
 
--- a certificate and its mark, at place i
-leading_at : (test : Certificate → Bool) (cs : List Certificate) (ms : List Mark) (i : ℕ) (c : Certificate) (m : Mark) → i < length cs → i < length ms → any_leading test (drop i cs) (drop i ms) ≡ ((leads (get_or ms i m) && test (get_or cs i c)) || any_leading test (drop (suc i) cs) (drop (suc i) ms))
-leading_at test [] ms i c m h k = absurd (omega (arith, h))
-leading_at test (d ∷ cs) [] i c m h k = absurd (omega (arith, k))
-leading_at test (d ∷ cs) (n ∷ ms) zero c m h k = refl
-leading_at test (d ∷ cs) (n ∷ ms) (suc i) c m h k = leading_at test cs ms i c m (omega (arith, h)) (omega (arith, k))
+pub member_at : {X : Type 0} (xs : List X) (i : ℕ) (d : X) → i < length xs → Member (get_or xs i d) xs
+member_at [] i d h = absurd (omega (arith, h))
+member_at (x ∷ xs) zero d h = inl refl
+member_at (x ∷ xs) (suc i) d h = inr (member_at xs i d (omega (arith, h)))
 
-module _ (test : Certificate → Bool) (cs : List Certificate) (ms : List Mark) (i : ℕ) (c : Certificate) (m : Mark) (h : i < length cs) (k : i < length ms) where
-  opened_pair : any_leading test (drop i cs) (drop i ms) ≡ ((leads (get_or ms i m) && test (get_or cs i c)) || any_leading test (drop (i + 1) cs) (drop (i + 1) ms))
-  opened_pair = rw add-one (leading_at test cs ms i c m h k)
-
-  pub leading_is_here : (leads (get_or ms i m) && test (get_or cs i c)) ≡ true → any_leading test (drop i cs) (drop i ms) ≡ true
-  leading_is_here t = opened_pair ∙ ap (λ b. b || any_leading test (drop (i + 1) cs) (drop (i + 1) ms)) t
-
-  pub leading_is_past : (leads (get_or ms i m) && test (get_or cs i c)) ≡ false → any_leading test (drop i cs) (drop i ms) ≡ any_leading test (drop (i + 1) cs) (drop (i + 1) ms)
-  leading_is_past f = opened_pair ∙ ap (λ b. b || any_leading test (drop (i + 1) cs) (drop (i + 1) ms)) f
+-- a record that a walk along the list and back comes to
+pub member_there_and_back : {X : Type 0} (xs : List X) (i : ℕ) (x : X) → i < length (reverse xs ++ xs) → x ≡ get_or (reverse xs ++ xs) i x → Member x xs
+member_there_and_back xs i x h is = elim (cases_lt i (length xs)) [
+  | inl l ↦
+      let at : get_or (reverse xs ++ xs) i x ≡ get_or xs (length xs - 1 - i) x = grind (arith, places, get_or-reverse) in
+      rw (is, at) (member_at xs (length xs - 1 - i) x (omega arith))
+  | inr l ↦
+      let at : get_or (reverse xs ++ xs) i x ≡ get_or xs (i - length xs) x = grind (arith, places) in
+      rw (is, at) (member_at xs (i - length xs) x (grind (arith, places)))
+]
 
 -- one more look
 look_at : (look : Certificate → Mark → Mark) (cs : List Certificate) (ms : List Mark) (i : ℕ) (c : Certificate) (m : Mark) → i < length cs → i < length ms → marked look (take (suc i) cs) ms ≡ set (marked look (take i cs) ms) i (look (get_or cs i c) (get_or (marked look (take i cs) ms) i m))
@@ -47,6 +51,3 @@ pub length_marked : (look : Certificate → Mark → Mark) (cs : List Certificat
 length_marked look [] ms = refl
 length_marked look (c ∷ cs) [] = refl
 length_marked look (c ∷ cs) (m ∷ ms) = ap suc (length_marked look cs ms)
-
-pub leading_is_over : (test : Certificate → Bool) (cs : List Certificate) (ms : List Mark) (i : ℕ) → length cs ≤ i → any_leading test (drop i cs) (drop i ms) ≡ false
-leading_is_over test cs ms i h = at_drop_all (λ z. any_leading test z (drop i ms)) cs i h

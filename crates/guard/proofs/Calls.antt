@@ -1,13 +1,11 @@
 -- From what the parts of a call promise to the machine's step.
-use Rattle.std.proofs.Common.{◌≡◌, ℕ, ◌+◌, ◌<◌, Bool, true, false, cond, not, ◌&&◌, eqb, ltb, List, [], length, Some, Ok, Err, Option, Result, sym, refl, ap, ◌∙◌, arith}
-use Rattle.std.proofs.lemmas.Bool.{ltb-true}
+use Rattle.std.proofs.Common.{◌≡◌, ℕ, ◌+◌, ◌<◌, Bool, true, false, cond, not, ◌&&◌, eqb, ltb, List, [], length, Some, None, Ok, Err, Option, Result, MatchOption, sym, refl, ap, subst, ◌∙◌, arith}
+use Rattle.std.proofs.lemmas.Bool.{ltb-true, true≢false}
 use Rattle.refusal.specs.declared.Refusal.{Refusal}
 use Rattle.refusal.specs.declared.Refusal.TheVariants.{BadTag, OtherBase, BaseExhausted}
 use Rattle.wire.specs.declared.types.Kind.{Kind}
-use Rattle.sessions.specs.Opened.{opened, used_at, with_last}
-use Rattle.tables.specs.Kept.{kept}
-use Rattle.tables.specs.Place.{position}
-use Rattle.parties.specs.declared.command.Performed.{Performed}
+use Rattle.sessions.specs.Opened.{used_at, with_last}
+use Rattle.std.specs.List.{position}
 use Rattle.parties.specs.Commands.{Command}
 use Rattle.actions.specs.Arguments.{Arguments, Arguments.take_ownership, Arguments.set_session_keys, Arguments.expire_session_keys, Arguments.grant_ownership, Arguments.revoke_ownership, Arguments.add_entry, Arguments.delete_entry, Arguments.cache_certificate, Arguments.factory_security_reset, Arguments.perform}
 use Rattle.machine.specs.Lists.{first_of, with_first}
@@ -54,7 +52,7 @@ read_of p q asked (Ok a) e =
 
 -- ## One delivery
 
-module _ (g : Guard) (n : ℕ) (l : Option Command) (bytes : List ℕ) (control clock : ℕ) (ms mp : Meaning) (verdict : Command → Performed) where
+module _ (g : Guard) (n : ℕ) (l : Option Command) (bytes : List ℕ) (control clock : ℕ) (ms mp : Meaning) (verdict : Command → Bool) where
   abbrev s : State
   s = view g n l
 
@@ -64,8 +62,8 @@ module _ (g : Guard) (n : ℕ) (l : Option Command) (bytes : List ℕ) (control 
   abbrev y : Bool
   y = taken verdict d
 
-  pub refused_unread : (why : Refusal) → Err why ≡ received_in ms.width mp.width bytes → Stepped s d y (Err why) s
-  refused_unread why e = unread s d y why (not_read ms.width mp.width bytes why e)
+  pub refused_unread : (why : Refusal) → Err why ≡ received_in ms.width mp.width bytes → (r : Answer) → r ≡ Err why → Stepped s d y r s
+  refused_unread why e r a = subst (λ z. Stepped s d y z s) (sym a) (unread s d y why (not_read ms.width mp.width bytes why e))
 
   module _ (q : Signed) (asked : Arguments) (kind : Kind) (read : Ok (record { signed = q; asked = asked }) ≡ received_in ms.width mp.width bytes) (is : kind ≡ kind_asked asked) where
     reads : reading d ≡ Ok asked
@@ -82,8 +80,8 @@ module _ (g : Guard) (n : ℕ) (l : Option Command) (bytes : List ℕ) (control 
     screen_is : screened (alone g) (presenting q control 0 ms mp) kind ≡ screened s (presented d) (kind_asked asked)
     screen_is = same_screen q kind ∙ (ap (λ z. screened s (presenting z control clock ms mp) kind) signed ∙ ap (screened s (presented d)) is)
 
-    pub refused_screened : (why : Refusal) → Err why ≡ screened (alone g) (presenting q control 0 ms mp) kind → Stepped s d y (Err why) s
-    refused_screened why e = screened_out s d y asked reads why (sym (e ∙ screen_is))
+    pub refused_screened : (why : Refusal) → Err why ≡ screened (alone g) (presenting q control 0 ms mp) kind → (r : Answer) → r ≡ Err why → Stepped s d y r s
+    refused_screened why e r a = subst (λ z. Stepped s d y z s) (sym a) (screened_out s d y asked reads why (sym (e ∙ screen_is)))
 
     module _ (pass : accepted ≡ screened (alone g) (presenting q control 0 ms mp) kind) where
       passes : accepted ≡ screened s (presented d) (kind_asked asked)
@@ -98,30 +96,41 @@ module _ (g : Guard) (n : ℕ) (l : Option Command) (bytes : List ℕ) (control 
           let two = passed (eqb p.signed.key_number g.base) OtherBase three refl one.1 in
           ltb-true g.base largest (passed (ltb g.base largest) BaseExhausted accepted refl two.1).0
 
-      pub base_left : by_session kind ≡ false → g.base < largest
-      base_left k = base_of_key (by_session (kind_asked asked)) (ap by_session (sym is) ∙ k) (screened_facts s d (kind_asked asked) (ap is_consumed (sym passes))).signed
+      unused : by_session kind ≡ false → g.base < largest
+      unused k = base_of_key (by_session (kind_asked asked)) (ap by_session (sym is) ∙ k) (screened_facts s d (kind_asked asked) (ap is_consumed (sym passes))).signed
+
+      pub base_left : (o : Option ℕ) → MatchOption o (by_session kind ≡ false) (λ i. (by_session kind ≡ true) × (position (signs q) g.sessions ≡ Some i)) → o ≡ None → g.base < largest
+      base_left None k e = unused k
+      base_left (Some i) p e = absurd (let z : ◌≡◌ {A = ℕ} 0 1 = cc in omega arith)
 
       -- what was used up
-      module _ (g1 : Guard) (place : ℕ) (found : by_session kind ≡ true → position (signs q) (opened g.sessions) ≡ Some place)
-          (used : opened g1.sessions ≡ cond (by_session kind) (used_at (opened g.sessions) place q.number) (opened g.sessions))
-          (raised : g1.base ≡ cond (by_session kind) g.base (g.base + 1))
-          (kept-rest : (g1.device ≡ g.device) × (g1.password ≡ g.password) × (kept g1.owners ≡ kept g.owners) × (kept g1.entries ≡ kept g.entries) × (kept g1.certificates ≡ kept g.certificates)) where
-        used_by : (k : Bool) → by_session kind ≡ k → cond k (used_at (opened g.sessions) place q.number) (opened g.sessions) ≡ cond (true && k) (with_first (signs q) (with_last q.number) (opened g.sessions)) (opened g.sessions)
-        used_by true e = used_is_with_first (signs q) (opened g.sessions) place q.number (found e)
-        used_by false e = refl
+      module _ (g1 : Guard) (place : Option ℕ) (placed : MatchOption place (by_session kind ≡ false) (λ i. (by_session kind ≡ true) × (position (signs q) g.sessions ≡ Some i)))
+          (used : MatchOption place (g1.sessions ≡ g.sessions) (λ i. g1.sessions ≡ used_at g.sessions i q.number))
+          (raised : MatchOption place (g1.base ≡ g.base + 1) (λ _. g1.base ≡ g.base))
+          (kept-rest : (g1.device ≡ g.device) × (g1.password ≡ g.password) × (g1.owners ≡ g.owners) × (g1.entries ≡ g.entries) × (g1.certificates ≡ g.certificates)) where
+        used_by : (o : Option ℕ) (k : Bool) → by_session kind ≡ k → MatchOption o (by_session kind ≡ false) (λ i. (by_session kind ≡ true) × (position (signs q) g.sessions ≡ Some i))
+            → MatchOption o (g1.sessions ≡ g.sessions) (λ i. g1.sessions ≡ used_at g.sessions i q.number)
+            → g1.sessions ≡ cond (true && k) (with_first (signs q) (with_last q.number) g.sessions) g.sessions
+        used_by None true e p u = absurd (true≢false (sym e ∙ p))
+        used_by None false e p u = u
+        used_by (Some i) true e p u = u ∙ used_is_with_first (signs q) g.sessions i q.number p.1
+        used_by (Some i) false e p u = absurd (true≢false (sym p.0 ∙ e))
 
-        sessions_used_now : opened g1.sessions ≡ number_used true (kind_asked asked) (signed_from bytes) (opened g.sessions)
-        sessions_used_now = used ∙ (used_by (by_session kind) refl ∙ (ap (λ z. number_used true kind z (opened g.sessions)) signed ∙ ap (λ z. number_used true z (signed_from bytes) (opened g.sessions)) is))
+        sessions_used_now : g1.sessions ≡ number_used true (kind_asked asked) (signed_from bytes) g.sessions
+        sessions_used_now = used_by place (by_session kind) refl placed used ∙ (ap (λ z. number_used true kind z g.sessions) signed ∙ ap (λ z. number_used true z (signed_from bytes) g.sessions) is)
 
-        raised_by : (k : Bool) → cond k g.base (g.base + 1) ≡ cond (true && not k) (g.base + 1) g.base
-        raised_by true = refl
-        raised_by false = refl
+        raised_by : (o : Option ℕ) (k : Bool) → by_session kind ≡ k → MatchOption o (by_session kind ≡ false) (λ i. (by_session kind ≡ true) × (position (signs q) g.sessions ≡ Some i))
+            → MatchOption o (g1.base ≡ g.base + 1) (λ _. g1.base ≡ g.base) → g1.base ≡ cond (true && not k) (g.base + 1) g.base
+        raised_by None true e p u = absurd (true≢false (sym e ∙ p))
+        raised_by None false e p u = u
+        raised_by (Some i) true e p u = u
+        raised_by (Some i) false e p u = absurd (true≢false (sym p.0 ∙ e))
 
         base_raised : g1.base ≡ base_after true (kind_asked asked) g.base
-        base_raised = raised ∙ (raised_by (by_session kind) ∙ ap (λ z. base_after true z g.base) is)
+        base_raised = raised_by place (by_session kind) refl placed raised ∙ ap (λ z. base_after true z g.base) is
 
-        length-used : (k : Bool) → length (cond (true && k) (with_first (signs (signed_from bytes)) (with_last (signed_from bytes).number) (opened g.sessions)) (opened g.sessions)) ≡ length (opened g.sessions)
-        length-used true = length-with_first (signs (signed_from bytes)) (with_last (signed_from bytes).number) (opened g.sessions)
+        length-used : (k : Bool) → length (cond (true && k) (with_first (signs (signed_from bytes)) (with_last (signed_from bytes).number) (g.sessions)) (g.sessions)) ≡ length (g.sessions)
+        length-used true = length-with_first (signs (signed_from bytes)) (with_last (signed_from bytes).number) (g.sessions)
         length-used false = refl
 
         tables_same : SameTables s (alone g1)
@@ -166,9 +175,9 @@ module _ (g : Guard) (n : ℕ) (l : Option Command) (bytes : List ℕ) (control 
             (acted.device ∙ kept-rest.0)
             (acted.password ∙ kept-rest.1)
             (acted.base ∙ base_raised)
-            (acted.owners ∙ ap (λ z. cond (is_accepted r) (owners_after q asked z) z) kept-rest.2 ∙ ap (λ z. cond (is_accepted r) (owners_after z asked (kept g.owners)) (kept g.owners)) signed)
+            (acted.owners ∙ ap (λ z. cond (is_accepted r) (owners_after q asked z) z) kept-rest.2 ∙ ap (λ z. cond (is_accepted r) (owners_after z asked (g.owners)) (g.owners)) signed)
             (acted.entries ∙ ap (λ z. cond (is_accepted r) (entries_after asked z) z) kept-rest.3)
             (acted.certificates ∙ ap (λ z. cond (is_accepted r) (certificates_after asked z) z) kept-rest.4)
-            (acted.sessions ∙ ap (λ z. cond (is_accepted r) (sessions_after q asked z) z) sessions_used_now ∙ ap (λ z. cond (is_accepted r) (sessions_after z asked (number_used true (kind_asked asked) (signed_from bytes) (opened g.sessions))) (number_used true (kind_asked asked) (signed_from bytes) (opened g.sessions))) signed)
+            (acted.sessions ∙ ap (λ z. cond (is_accepted r) (sessions_after q asked z) z) sessions_used_now ∙ ap (λ z. cond (is_accepted r) (sessions_after z asked (number_used true (kind_asked asked) (signed_from bytes) (g.sessions))) (number_used true (kind_asked asked) (signed_from bytes) (g.sessions))) signed)
             done
             last

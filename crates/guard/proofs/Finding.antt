@@ -1,11 +1,12 @@
 -- What a search by place says of the first record that passes a test.
 use Rattle.std.proofs.Common.{◌≡◌, ℕ, suc, ◌+◌, ◌<◌, Bool, true, false, cond, List, [], ◌∷◌, length, get_or, set, is_some, Some, None, Option, sym, refl, ap, ◌∙◌, subst, arith}
-use Rattle.std.specs.List.{remove}
+use Rattle.std.specs.List.{remove, position, position_from, slice_get}
+use Rattle.std.specs.Option.{option_and_then, option_map_or}
+use Rattle.std.proofs.lemmas.Iterator.Adapters.{position_from-zero}
 use Rattle.sessions.specs.declared.types.Session.{Session}
 use Rattle.sessions.specs.declared.types.SessionName.{SessionName}
-use Rattle.tables.specs.Kept.{at, at_found, removed_found}
 use Rattle.sessions.specs.Opened.{with_last, blank_session, used_at, name_of, same_name}
-use Rattle.tables.specs.Place.{position_from, position, named}
+use Rattle.tables.specs.Place.{named}
 use Rattle.machine.specs.Lists.{any_of, first_of, without, with_first}
 
 -- what is known of the place that a search from i on answers
@@ -14,7 +15,7 @@ record Found {X : Type 0} (test : X → Bool) (xs : List X) (i j : ℕ) : Type 0
   is : j ≡ i + place
   within : place < length xs
   any : any_of test xs ≡ true
-  first : at xs place ≡ first_of test xs
+  first : slice_get xs place ≡ first_of test xs
   gone : remove xs place ≡ without test xs
   changed : (d : X) (change : X → X) → set xs place (change (get_or xs place d)) ≡ with_first test change xs
 
@@ -68,29 +69,32 @@ searched_from test (x ∷ xs) i = go (test x) refl (searched_from test xs (i + 1
 -- ## By the answer of a search
 
 module _ {X : Type 0} (test : X → Bool) (xs : List X) where
+  searched : Searched test xs 0 (position test xs)
+  searched = subst (λ z. Searched test xs 0 z) (sym (position_from-zero test xs)) (searched_from test xs 0)
+
   by_answer : (o : Option ℕ) → position test xs ≡ o → Searched test xs 0 o
-  by_answer o e = subst (λ z. Searched test xs 0 z) e (searched_from test xs 0)
+  by_answer o e = subst (λ z. Searched test xs 0 z) e searched
 
   some_any : (o : Option ℕ) → Searched test xs 0 o → is_some o ≡ any_of test xs
   some_any None m = sym m.none
   some_any (Some j) f = sym f.any
 
   pub is_some_any : is_some (position test xs) ≡ any_of test xs
-  is_some_any = some_any (position test xs) (searched_from test xs 0)
+  is_some_any = some_any (position test xs) searched
 
-  at_first : (o : Option ℕ) → Searched test xs 0 o → at_found xs o ≡ first_of test xs
+  at_first : (o : Option ℕ) → Searched test xs 0 o → option_and_then (slice_get xs) o ≡ first_of test xs
   at_first None m = sym m.first
-  at_first (Some j) f = let e : j ≡ f.place = let i = f.is in omega arith in ap (at xs) e ∙ f.first
+  at_first (Some j) f = let e : j ≡ f.place = let i = f.is in omega arith in ap (slice_get xs) e ∙ f.first
 
-  pub found_is_first : at_found xs (position test xs) ≡ first_of test xs
-  found_is_first = at_first (position test xs) (searched_from test xs 0)
+  pub found_is_first : option_and_then (slice_get xs) (position test xs) ≡ first_of test xs
+  found_is_first = at_first (position test xs) searched
 
-  removed_first : (o : Option ℕ) → Searched test xs 0 o → removed_found xs o ≡ without test xs
+  removed_first : (o : Option ℕ) → Searched test xs 0 o → option_map_or (remove xs) o xs ≡ without test xs
   removed_first None m = sym m.same
   removed_first (Some j) f = let e : j ≡ f.place = let i = f.is in omega arith in ap (remove xs) e ∙ f.gone
 
-  pub removed_is_without : removed_found xs (position test xs) ≡ without test xs
-  removed_is_without = removed_first (position test xs) (searched_from test xs 0)
+  pub removed_is_without : option_map_or (remove xs) (position test xs) xs ≡ without test xs
+  removed_is_without = removed_first (position test xs) searched
 
 pub used_is_with_first : (test : Session → Bool) (ss : List Session) (i n : ℕ) → position test ss ≡ Some i → used_at ss i n ≡ with_first test (with_last n) ss
 used_is_with_first test ss i n e =
@@ -107,16 +111,16 @@ module _ (name : SessionName) (sought : SessionName) (ss : List Session) (is : n
   pub none_found : None ≡ position (named name_of same_name name) ss → first_of (named name_of same_name sought) ss ≡ None
   none_found e = (by_answer (named name_of same_name sought) ss None (sym (e ∙ by_name))).first
 
-  at_place : (i : ℕ) → Some i ≡ position (named name_of same_name name) ss → at ss i ≡ first_of (named name_of same_name sought) ss
+  at_place : (i : ℕ) → Some i ≡ position (named name_of same_name name) ss → slice_get ss i ≡ first_of (named name_of same_name sought) ss
   at_place i e =
       let f = by_answer (named name_of same_name sought) ss (Some i) (sym (e ∙ by_name)) in
       let p : i ≡ f.place = let q = f.is in omega arith in
-      ap (at ss) p ∙ f.first
+      ap (slice_get ss) p ∙ f.first
 
-  pub none_there : (i : ℕ) → Some i ≡ position (named name_of same_name name) ss → None ≡ at ss i → first_of (named name_of same_name sought) ss ≡ None
+  pub none_there : (i : ℕ) → Some i ≡ position (named name_of same_name name) ss → None ≡ slice_get ss i → first_of (named name_of same_name sought) ss ≡ None
   none_there i e n = sym (n ∙ at_place i e)
 
-  pub one_there : (i : ℕ) (s : Session) → Some i ≡ position (named name_of same_name name) ss → Some s ≡ at ss i → (first_of (named name_of same_name sought) ss ≡ Some s) × (position (named name_of same_name sought) ss ≡ Some i)
+  pub one_there : (i : ℕ) (s : Session) → Some i ≡ position (named name_of same_name name) ss → Some s ≡ slice_get ss i → (first_of (named name_of same_name sought) ss ≡ Some s) × (position (named name_of same_name sought) ss ≡ Some i)
   one_there i s e f = (sym (f ∙ at_place i e), sym (e ∙ by_name))
 
 pub length-with_first : {X : Type 0} (test : X → Bool) (change : X → X) (xs : List X) → length (with_first test change xs) ≡ length xs

@@ -1,6 +1,5 @@
 mod Finding
 mod Ruled
-mod Proofs
 mod Screens
 mod Steps
 mod Delivering

@@ -1,7 +1,9 @@
 -- The ways through stages 2 and 3.
-use Rattle.std.proofs.Common.{◌≡◌, true, false, cond, ◌⊎◌, Err, sym, ap, ◌∙◌, inl, inr}
+use Rattle.std.proofs.Common.{◌≡◌, Bool, true, false, not, cond, ◌⊎◌, Some, Err, refl, sym, ap, ◌∙◌, inl, inr}
 use Rattle.std.proofs.lemmas.Bool.{eq-eqb, ne_eqb}
 use Rattle.refusal.specs.declared.Refusal.TheVariants.{OtherControlNumber, WrongKind}
+use denote.Enum.Bare.{sameb}
+use Rattle.wire.specs.contracts.types.Kind.{the_type}
 use Rattle.wire.specs.declared.types.Kind.{Kind}
 use Rattle.wire.specs.declared.types.Kind.TheVariants.{Unmarked, Session, PublicKey}
 use Rattle.machine.specs.Lists.{first_of}
@@ -34,3 +36,23 @@ no_session k (inr e) = ap by_session e
 
 pub key_way : (k : Kind) → (k ≡ Unmarked) ⊎ (k ≡ PublicKey) → (a b : Answer) → b ≡ cond (by_session k) a b
 key_way k e a b = sym (ap (λ z. cond z a b) (no_session k e))
+
+-- the derived comparison of two kinds is the machine's test
+pub kinds_compared : (of kind : Kind) → sameb the_type of kind ≡ is_kind kind (Some of)
+kinds_compared Unmarked Unmarked = refl
+kinds_compared Unmarked Session = refl
+kinds_compared Unmarked PublicKey = refl
+kinds_compared Session Unmarked = refl
+kinds_compared Session Session = refl
+kinds_compared Session PublicKey = refl
+kinds_compared PublicKey Unmarked = refl
+kinds_compared PublicKey Session = refl
+kinds_compared PublicKey PublicKey = refl
+
+pub false_from_not : (b : Bool) → true ≡ not b → false ≡ b
+false_from_not true e = sym e
+false_from_not false e = refl
+
+pub true_from_not : (b : Bool) → false ≡ not b → true ≡ b
+true_from_not true e = refl
+true_from_not false e = sym e

@@ -1,10 +1,7 @@
 -- The guard and its service as the machine's state, and a call as a delivery.
 use Rattle.std.specs.Prelude.{◌≡◌, ℕ, Bool, false, cond, List, Some, None, Ok, Err, Option, Result}
 use Rattle.refusal.specs.declared.Refusal.{Refusal}
-use Rattle.tables.specs.Kept.{kept}
-use Rattle.sessions.specs.Opened.{opened}
-use Rattle.parties.specs.declared.command.Performed.{Performed}
-use Rattle.parties.specs.Commands.{Command, is_taken}
+use Rattle.parties.specs.Commands.{Command}
 use Rattle.actions.specs.Arguments.{Arguments}
 use Rattle.machine.specs.Requests.{Meaning, Delivery, Presented, Signed, reading}
 use Rattle.machine.specs.Machine.{State, Answer, is_accepted, owners_after, entries_after, certificates_after, sessions_after, command_asked}
@@ -15,10 +12,10 @@ view g done last = record {
   device = g.device;
   password = g.password;
   base = g.base;
-  owners = kept g.owners;
-  entries = kept g.entries;
-  certificates = kept g.certificates;
-  sessions = opened g.sessions;
+  owners = g.owners;
+  entries = g.entries;
+  certificates = g.certificates;
+  sessions = g.sessions;
   done = done;
   last = last;
 }
@@ -37,19 +34,19 @@ abbrev pub presenting : Signed → ℕ → ℕ → Meaning → Meaning → Prese
 presenting signed control clock session public = record { signed = signed; control = control; clock = clock; session = session; public = public }
 
 -- the service's yes or no to the command that a delivery asks for; no where it asks for none
-abbrev pub taken_of : (Command → Performed) → Option Command → Bool
+abbrev pub taken_of : (Command → Bool) → Option Command → Bool
 taken_of verdict None = false
-taken_of verdict (Some c) = is_taken (verdict c)
+taken_of verdict (Some c) = verdict c
 
-abbrev pub taken_as : (Command → Performed) → Delivery → Result Arguments Refusal → Bool
+abbrev pub taken_as : (Command → Bool) → Delivery → Result Arguments Refusal → Bool
 taken_as verdict d (Err why) = false
 taken_as verdict d (Ok asked) = taken_of verdict (command_asked d.clock asked)
 
-abbrev pub taken : (Command → Performed) → Delivery → Bool
+abbrev pub taken : (Command → Bool) → Delivery → Bool
 taken verdict d = taken_as verdict d (reading d)
 
 -- the answer of a check that gives the place of a session where it passes
-abbrev pub unplaced : Result ℕ Refusal → Answer
+abbrev pub unplaced : {P : Type 0} → Result P Refusal → Answer
 unplaced (Ok i) = Ok tt
 unplaced (Err why) = Err why
 
@@ -58,7 +55,7 @@ pub record Acted (q : Signed) (asked : Arguments) (r : Answer) (before after : G
   pub device : after.device ≡ before.device
   pub password : after.password ≡ before.password
   pub base : after.base ≡ before.base
-  pub owners : kept after.owners ≡ cond (is_accepted r) (owners_after q asked (kept before.owners)) (kept before.owners)
-  pub entries : kept after.entries ≡ cond (is_accepted r) (entries_after asked (kept before.entries)) (kept before.entries)
-  pub certificates : kept after.certificates ≡ cond (is_accepted r) (certificates_after asked (kept before.certificates)) (kept before.certificates)
-  pub sessions : opened after.sessions ≡ cond (is_accepted r) (sessions_after q asked (opened before.sessions)) (opened before.sessions)
+  pub owners : after.owners ≡ cond (is_accepted r) (owners_after q asked (before.owners)) (before.owners)
+  pub entries : after.entries ≡ cond (is_accepted r) (entries_after asked (before.entries)) (before.entries)
+  pub certificates : after.certificates ≡ cond (is_accepted r) (certificates_after asked (before.certificates)) (before.certificates)
+  pub sessions : after.sessions ≡ cond (is_accepted r) (sessions_after q asked (before.sessions)) (before.sessions)

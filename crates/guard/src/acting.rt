@@ -1,21 +1,19 @@
 // Stages 7 to 9: who may, and what an accepted request does.
 ghost use Rattle.std.specs.Prelude.{◌≡◌, ◌+◌, false, [], if◌then◌else◌, Some, None};
 ghost use Rattle.refusal.specs.declared.Refusal.TheVariants.{NotAuthorised, NotTaken};
-ghost use Rattle.tables.specs.Kept.{kept};
-ghost use Rattle.sessions.specs.Opened.{opened};
-ghost use Rattle.parties.specs.Commands.{command, is_taken};
+ghost use Rattle.parties.specs.Commands.{command};
 ghost use Rattle.actions.specs.Views.{saying};
 ghost use Rattle.machine.specs.Delegation.{is_owner, authorised};
 ghost use Rattle.machine.specs.Machine.{accepted, is_accepted, passing, decided, command_asked, done_after, last_after, tables_of};
 ghost use Rattle.requests.specs.Received.{signed_by};
 ghost use Rattle.guard.specs.View.{alone, meaning, presenting, taken_of, Acted};
 
-use crate::owning::{add_entry, delete_entry, grant, is_owner, revoke, take_ownership};
+use crate::owning::{add_entry, delete_entry, grant, require_owner, revoke, take_ownership};
 use crate::signing::{cache, expire_session, open_session};
 use crate::types::Guard;
 use actions::types::Arguments;
 use delegation::is_authorised;
-use parties::command::Performed;
+use parties::command::CommandView;
 use parties::service::Service;
 use parties::verifier::Verifier;
 use refusal::Refusal;
@@ -24,16 +22,14 @@ use requests::Request;
 impl Guard {
     // Empties all four tables; base and password stay.
     fn reset(&mut self, signer: &[u8; 20]) -> Result<(), Refusal>
-        ensures answer { result ≡ passing (is_owner (kept self.old.owners) signer.now) NotAuthorised accepted }
-        ensures owners { kept self.new.owners ≡ (if is_accepted result then [] else kept self.old.owners) }
-        ensures entries { kept self.new.entries ≡ (if is_accepted result then [] else kept self.old.entries) }
-        ensures certificates { kept self.new.certificates ≡ (if is_accepted result then [] else kept self.old.certificates) }
-        ensures sessions { opened self.new.sessions ≡ (if is_accepted result then [] else opened self.old.sessions) }
+        ensures answer { result ≡ passing (is_owner self.old.owners signer.now) NotAuthorised accepted }
+        ensures owners { self.new.owners ≡ (if is_accepted result then [] else self.old.owners) }
+        ensures entries { self.new.entries ≡ (if is_accepted result then [] else self.old.entries) }
+        ensures certificates { self.new.certificates ≡ (if is_accepted result then [] else self.old.certificates) }
+        ensures sessions { self.new.sessions ≡ (if is_accepted result then [] else self.old.sessions) }
         ensures nothing_else { (self.new.device ≡ self.old.device) × (self.new.password ≡ self.old.password) × (self.new.base ≡ self.old.base) }
     {
-        if !is_owner(&self.owners, signer) {
-            return Err(Refusal::NotAuthorised);
-        }
+        require_owner(&self.owners, signer)?;
         self.owners.clear();
         self.entries.clear();
         self.certificates.clear();
@@ -50,7 +46,7 @@ impl Guard {
         clock: u64,
         service: &mut S,
     ) -> Result<(), Refusal>
-        ensures answer { result ≡ passing (authorised (tables_of (alone self.now)) clock name.now signer.now) NotAuthorised (passing (is_taken (S.Service.verdict service.old (command name.now payload.now clock))) NotTaken accepted) }
+        ensures answer { result ≡ passing (authorised (tables_of (alone self.now)) clock name.now signer.now) NotAuthorised (passing (S.Service.verdict service.old (command name.now payload.now clock)) NotTaken accepted) }
         ensures done { S.Service.done service.new ≡ (if is_accepted result then S.Service.done service.old + 1 else S.Service.done service.old) }
         ensures last { S.Service.last service.new ≡ (if is_accepted result then Some (command name.now payload.now clock) else S.Service.last service.old) }
         ensures untouched { is_accepted result ≡ false → service.new ≡ service.old }
@@ -65,10 +61,12 @@ impl Guard {
         ) {
             return Err(Refusal::NotAuthorised);
         }
-        match service.perform(name, payload, clock) {
-            Performed::Taken => Ok(()),
-            Performed::NotTaken => Err(Refusal::NotTaken),
-        }
+        service.perform(CommandView {
+            name,
+            payload,
+            clock,
+        })?;
+        Ok(())
     }
 
     // One function for each action, most of them over one table.

@@ -12,7 +12,7 @@ use parties::verifier::Verifier;
 use records::{Certificate, Entry, Scope};
 use refusal::Refusal;
 use requests::receive;
-use sessions::Sessions;
+use sessions::Session;
 use tables::Table;
 
 impl Guard {
@@ -43,7 +43,7 @@ impl Guard {
                 device: hash,
                 scope,
             }),
-            sessions: Sessions::new(),
+            sessions: Table::new(Session::default()),
         }
     }
 
@@ -62,16 +62,10 @@ impl Guard {
         ensures lawful_after_every_history { LawfulOn (view self.old (S.Service.done service.old) (S.Service.last service.old)) (delivery envelope.now control clock (meaning V.Verifier.width (V.Verifier.stands session.now)) (meaning P.Verifier.width (P.Verifier.stands public.now))) (taken (S.Service.verdict service.old) (delivery envelope.now control clock (meaning V.Verifier.width (V.Verifier.stands session.now)) (meaning P.Verifier.width (P.Verifier.stands public.now)))) result (view self.new (S.Service.done service.new) (S.Service.last service.new)) }
         ensures refusal_leaves_the_service_untouched { is_accepted result ≡ false → service.new ≡ service.old }
     {
-        let request = match receive::<V, P>(envelope) {
-            Ok(request) => request,
-            Err(why) => return Err(why),
-        };
+        let request = receive::<V, P>(envelope)?;
         let kind = kind_asked(&request.arguments);
-        let place = match self.screen(&request, kind, control, session, public) {
-            Ok(place) => place,
-            Err(why) => return Err(why),
-        };
-        self.consume(kind, place, request.number);
+        let place = self.screen(&request, kind, control, session, public)?;
+        self.consume(place, request.number);
         self.act(&request, clock, session, public, service)
     }
 }

@@ -1,17 +1,16 @@
 // The two rules of every table: what is listed is not listed again, and what is not listed cannot be removed.
 ghost use Rattle.std.specs.Prelude.{◌≡◌, [], ◌∷◌, ◌++◌, length, if◌then◌else◌};
-ghost use Rattle.tables.specs.Kept.{kept};
 ghost use Rattle.tables.specs.Place.{named};
 ghost use Rattle.refusal.specs.declared.Refusal.TheVariants.{NotListed};
 ghost use Rattle.machine.specs.Lists.{any_of, without};
 ghost use Rattle.machine.specs.Machine.{accepted, is_accepted, passing, listing};
 
 use refusal::Refusal;
-use tables::{Appended, Record, Table};
+use tables::{Record, Table};
 
 // Whether the key names a record.
 pub(crate) fn lists<T: Record, const N: usize>(table: &Table<T, N>, key: &T::Key) -> bool
-    ensures { result ≡ any_of (named T.Record.key T.Record.equal key.now) (kept table.now) }
+    ensures { result ≡ any_of (named T.Record.key T.Record.equal key.now) table.now }
 {
     table.contains(key)
 }
@@ -22,16 +21,14 @@ pub(crate) fn list<T: Record, const N: usize>(
     key: &T::Key,
     x: T,
 ) -> Result<(), Refusal>
-    ensures answer { result ≡ listing (any_of (named T.Record.key T.Record.equal key.now) (kept table.old)) (length (kept table.old)) N }
-    ensures after { kept table.new ≡ (if is_accepted result then kept table.old ++ x ∷ [] else kept table.old) }
+    ensures answer { result ≡ listing (any_of (named T.Record.key T.Record.equal key.now) table.old) (length table.old) N }
+    ensures after { table.new ≡ (if is_accepted result then table.old ++ x ∷ [] else table.old) }
 {
     if lists(table, key) {
         return Err(Refusal::AlreadyListed);
     }
-    match table.append(x) {
-        Appended::Done => Ok(()),
-        Appended::Full => Err(Refusal::TableFull),
-    }
+    table.append(x)?;
+    Ok(())
 }
 
 // Removes the record that the key names.
@@ -39,8 +36,8 @@ pub(crate) fn unlist<T: Record, const N: usize>(
     table: &mut Table<T, N>,
     key: &T::Key,
 ) -> Result<(), Refusal>
-    ensures answer { result ≡ passing (any_of (named T.Record.key T.Record.equal key.now) (kept table.old)) NotListed accepted }
-    ensures after { kept table.new ≡ (if is_accepted result then without (named T.Record.key T.Record.equal key.now) (kept table.old) else kept table.old) }
+    ensures answer { result ≡ passing (any_of (named T.Record.key T.Record.equal key.now) table.old) NotListed accepted }
+    ensures after { table.new ≡ (if is_accepted result then without (named T.Record.key T.Record.equal key.now) table.old else table.old) }
 {
     if !lists(table, key) {
         return Err(Refusal::NotListed);

@@ -2,7 +2,6 @@
 ghost use Rattle.std.specs.Prelude.{◌≡◌, ◌+◌, ◌≤◌, not, ◌&&◌, [], ◌∷◌, ◌++◌, length, take, if◌then◌else◌, ◌==◌};
 ghost use Rattle.std.specs.Str.{bytes_eq};
 ghost use Rattle.refusal.specs.declared.Refusal.TheVariants.{NotAuthorised, RevokesItself, NotListed};
-ghost use Rattle.tables.specs.Kept.{kept};
 ghost use Rattle.records.specs.Equality.{same_entry};
 ghost use Rattle.records.specs.Records.{big_endian};
 ghost use Rattle.machine.specs.Lists.{any_of, without};
@@ -13,36 +12,34 @@ use crate::listing::{list, lists, unlist};
 use parties::verifier::Verifier;
 use records::Entry;
 use refusal::Refusal;
-use tables::{Record, Table};
-
-fn eight_bytes(n: u64) -> [u8; 8]
-    ensures { result ≡ big_endian 8 n }
-{
-    n.to_be_bytes()
-}
-
-// Writes `part` into `out` from `at` on.
-fn put(out: &mut [u8], at: usize, part: &[u8])
-    requires { at + length part.now ≤ length out.old }
-    ensures { take (at + length part.now) out.new ≡ take at out.old ++ part.now }
-{
-    out[at..at + part.len()].copy_from_slice(part);
-}
+use tables::Table;
 
 // What the proof of a TakeOwnership stands for: the key number and the signer's hash.
 fn proof_text(key_number: u64, signer: &[u8; 20]) -> [u8; 28]
     ensures { result ≡ big_endian 8 key_number ++ signer.now }
 {
     let mut text = [0; 28];
-    put(&mut text, 0, &eight_bytes(key_number));
-    put(&mut text, 8, signer);
+    let (number, hash) = text.split_at_mut(8);
+    number.copy_from_slice(&key_number.to_be_bytes());
+    hash.copy_from_slice(signer);
     text
 }
 
 pub(crate) fn is_owner(owners: &Table<[u8; 20], 8>, hash: &[u8; 20]) -> bool
-    ensures { result ≡ is_owner (kept owners.now) hash.now }
+    ensures { result ≡ is_owner owners.now hash.now }
 {
     lists(owners, hash)
+}
+
+// Stage 7 of what only owners do.
+pub(crate) fn require_owner(owners: &Table<[u8; 20], 8>, signer: &[u8; 20]) -> Result<(), Refusal>
+    ensures { result ≡ passing (is_owner owners.now signer.now) NotAuthorised accepted }
+{
+    if is_owner(owners, signer) {
+        Ok(())
+    } else {
+        Err(Refusal::NotAuthorised)
+    }
 }
 
 // The signer becomes the first owner.
@@ -54,16 +51,14 @@ pub(crate) fn take_ownership<V: Verifier>(
     proof: &[u8],
     session: &V,
 ) -> Result<(), Refusal>
-    ensures answer { result ≡ passing (length (kept owners.old) == 0 && V.Verifier.stands session.now password.now (big_endian 8 key_number ++ signer.now) proof.now) NotAuthorised accepted }
-    ensures after { kept owners.new ≡ (if is_accepted result then kept owners.old ++ signer.now ∷ [] else kept owners.old) }
+    ensures answer { result ≡ passing (length owners.old == 0 && V.Verifier.stands session.now password.now (big_endian 8 key_number ++ signer.now) proof.now) NotAuthorised accepted }
+    ensures after { owners.new ≡ (if is_accepted result then owners.old ++ signer.now ∷ [] else owners.old) }
 {
-    if !owners.is_empty() {
+    let text = proof_text(key_number, signer);
+    if !owners.is_empty() || !session.verify(password, &text, proof) {
         return Err(Refusal::NotAuthorised);
     }
-    if !session.verify(password, &proof_text(key_number, signer), proof) {
-        return Err(Refusal::NotAuthorised);
-    }
-    owners.append(*signer);
+    owners.append(*signer)?;
     Ok(())
 }
 
@@ -72,12 +67,10 @@ pub(crate) fn grant(
     signer: &[u8; 20],
     hash: [u8; 20],
 ) -> Result<(), Refusal>
-    ensures answer { result ≡ passing (is_owner (kept owners.old) signer.now) NotAuthorised (listing (is_owner (kept owners.old) hash) (length (kept owners.old)) owner_limit) }
-    ensures after { kept owners.new ≡ (if is_accepted result then kept owners.old ++ hash ∷ [] else kept owners.old) }
+    ensures answer { result ≡ passing (is_owner owners.old signer.now) NotAuthorised (listing (is_owner owners.old hash) (length owners.old) owner_limit) }
+    ensures after { owners.new ≡ (if is_accepted result then owners.old ++ hash ∷ [] else owners.old) }
 {
-    if !is_owner(owners, signer) {
-        return Err(Refusal::NotAuthorised);
-    }
+    require_owner(owners, signer)?;
     list(owners, &hash, hash)
 }
 
@@ -87,13 +80,11 @@ pub(crate) fn revoke(
     signer: &[u8; 20],
     hash: [u8; 20],
 ) -> Result<(), Refusal>
-    ensures answer { result ≡ passing (is_owner (kept owners.old) signer.now) NotAuthorised (passing (not (bytes_eq signer.now hash)) RevokesItself (passing (is_owner (kept owners.old) hash) NotListed accepted)) }
-    ensures after { kept owners.new ≡ (if is_accepted result then without (λ o. bytes_eq o hash) (kept owners.old) else kept owners.old) }
+    ensures answer { result ≡ passing (is_owner owners.old signer.now) NotAuthorised (passing (not (bytes_eq signer.now hash)) RevokesItself (passing (is_owner owners.old hash) NotListed accepted)) }
+    ensures after { owners.new ≡ (if is_accepted result then without (λ o. bytes_eq o hash) owners.old else owners.old) }
 {
-    if !is_owner(owners, signer) {
-        return Err(Refusal::NotAuthorised);
-    }
-    if signer.has_key(&hash) {
+    require_owner(owners, signer)?;
+    if *signer == hash {
         return Err(Refusal::RevokesItself);
     }
     unlist(owners, &hash)
@@ -105,12 +96,10 @@ pub(crate) fn add_entry(
     signer: &[u8; 20],
     entry: Entry,
 ) -> Result<(), Refusal>
-    ensures answer { result ≡ passing (is_owner (kept owners.now) signer.now) NotAuthorised (listing (any_of (λ e. same_entry e entry) (kept entries.old)) (length (kept entries.old)) entry_limit) }
-    ensures after { kept entries.new ≡ (if is_accepted result then kept entries.old ++ entry ∷ [] else kept entries.old) }
+    ensures answer { result ≡ passing (is_owner owners.now signer.now) NotAuthorised (listing (any_of (λ e. same_entry e entry) entries.old) (length entries.old) entry_limit) }
+    ensures after { entries.new ≡ (if is_accepted result then entries.old ++ entry ∷ [] else entries.old) }
 {
-    if !is_owner(owners, signer) {
-        return Err(Refusal::NotAuthorised);
-    }
+    require_owner(owners, signer)?;
     list(entries, &entry, entry)
 }
 
@@ -120,11 +109,9 @@ pub(crate) fn delete_entry(
     signer: &[u8; 20],
     entry: Entry,
 ) -> Result<(), Refusal>
-    ensures answer { result ≡ passing (is_owner (kept owners.now) signer.now) NotAuthorised (passing (any_of (λ e. same_entry e entry) (kept entries.old)) NotListed accepted) }
-    ensures after { kept entries.new ≡ (if is_accepted result then without (λ e. same_entry e entry) (kept entries.old) else kept entries.old) }
+    ensures answer { result ≡ passing (is_owner owners.now signer.now) NotAuthorised (passing (any_of (λ e. same_entry e entry) entries.old) NotListed accepted) }
+    ensures after { entries.new ≡ (if is_accepted result then without (λ e. same_entry e entry) entries.old else entries.old) }
 {
-    if !is_owner(owners, signer) {
-        return Err(Refusal::NotAuthorised);
-    }
+    require_owner(owners, signer)?;
     unlist(entries, &entry)
 }

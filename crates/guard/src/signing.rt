@@ -2,9 +2,7 @@
 ghost use Rattle.std.specs.Prelude.{◌≡◌, [], ◌∷◌, ◌++◌, length, IfOk, if◌then◌else◌, Some, None, Err, MatchOption, nat_lt};
 ghost use Rattle.std.specs.Str.{bytes_eq};
 ghost use Rattle.refusal.specs.declared.Refusal.TheVariants.{OtherDevice, BadIssuerTag, TableFull};
-ghost use Rattle.tables.specs.Kept.{kept};
-ghost use Rattle.sessions.specs.Opened.{opened};
-ghost use Rattle.tables.specs.Place.{position};
+ghost use Rattle.std.specs.List.{position};
 ghost use Rattle.records.specs.Equality.{same_certificate};
 ghost use Rattle.machine.specs.Lists.{any_of, first_of, without};
 ghost use Rattle.machine.specs.Machine.{accepted, is_accepted, passing, listing, signs, screened_by_session, screened_by_key, new_session, session_limit, certificate_limit};
@@ -17,7 +15,7 @@ use records::Certificate;
 use refusal::Refusal;
 use requests::Request;
 use sessions::{Session, SessionName, Sessions};
-use tables::{Appended, Record, Table};
+use tables::Table;
 
 fn session_name(request: &Request) -> SessionName
     ensures { result ≡ record { id = request.now.key_number; signer = request.now.signer } }
@@ -30,15 +28,10 @@ fn session_name(request: &Request) -> SessionName
 
 // The session that signs a request, and its place.
 fn find_session<'a>(sessions: &'a Sessions, request: &Request) -> Option<(usize, &'a Session)>
-    ensures { MatchOption result (first_of (signs (signed_by request.now)) (opened sessions.now) ≡ None) (λ p. (first_of (signs (signed_by request.now)) (opened sessions.now) ≡ Some p.1.now) × (position (signs (signed_by request.now)) (opened sessions.now) ≡ Some p.0)) }
+    ensures { MatchOption result (first_of (signs (signed_by request.now)) sessions.now ≡ None) (λ p. (first_of (signs (signed_by request.now)) sessions.now ≡ Some p.1.now) × (position (signs (signed_by request.now)) sessions.now ≡ Some p.0)) }
 {
-    let Some(i) = sessions.find(&session_name(request)) else {
-        return None;
-    };
-    let Some(session) = sessions.get(i) else {
-        return None;
-    };
-    Some((i, session))
+    let i = sessions.find(&session_name(request))?;
+    Some((i, sessions.get(i)?))
 }
 
 // Stages 4 to 6 for a request that a session signs: the place of this session.
@@ -47,12 +40,10 @@ pub(crate) fn screen_session<V: Verifier>(
     request: &Request,
     session: &V,
 ) -> Result<usize, Refusal>
-    ensures answer { unplaced result ≡ screened_by_session (presenting (signed_by request.now) 0 0 (meaning V.Verifier.width (V.Verifier.stands session.now)) (meaning V.Verifier.width (V.Verifier.stands session.now))) (first_of (signs (signed_by request.now)) (opened sessions.now)) }
-    ensures place { IfOk result (λ i. position (signs (signed_by request.now)) (opened sessions.now) ≡ Some i) }
+    ensures answer { unplaced result ≡ screened_by_session (presenting (signed_by request.now) 0 0 (meaning V.Verifier.width (V.Verifier.stands session.now)) (meaning V.Verifier.width (V.Verifier.stands session.now))) (first_of (signs (signed_by request.now)) sessions.now) }
+    ensures place { IfOk result (λ i. position (signs (signed_by request.now)) sessions.now ≡ Some i) }
 {
-    let Some((i, found)) = find_session(sessions, request) else {
-        return Err(Refusal::NoSession);
-    };
+    let (i, found) = find_session(sessions, request).ok_or(Refusal::NoSession)?;
     if !session.verify(&found.key, request.text, request.tag) {
         return Err(Refusal::BadTag);
     }
@@ -62,13 +53,13 @@ pub(crate) fn screen_session<V: Verifier>(
     Ok(i)
 }
 
-// Stages 5 and 6 for a request that a public key signs. No session has a part in it: the place says nothing.
+// Stages 5 and 6 for a request that a public key signs.
 pub(crate) fn screen_key<P: Verifier>(
     base: u64,
     request: &Request,
     public: &P,
-) -> Result<usize, Refusal>
-    ensures { unplaced result ≡ screened_by_key base (presenting (signed_by request.now) 0 0 (meaning P.Verifier.width (P.Verifier.stands public.now)) (meaning P.Verifier.width (P.Verifier.stands public.now))) }
+) -> Result<(), Refusal>
+    ensures { result ≡ screened_by_key base (presenting (signed_by request.now) 0 0 (meaning P.Verifier.width (P.Verifier.stands public.now)) (meaning P.Verifier.width (P.Verifier.stands public.now))) }
 {
     if !public.verify(&request.signer, request.text, request.tag) {
         return Err(Refusal::BadTag);
@@ -79,7 +70,7 @@ pub(crate) fn screen_key<P: Verifier>(
     if base == u64::MAX {
         return Err(Refusal::BaseExhausted);
     }
-    Ok(0)
+    Ok(())
 }
 
 pub(crate) fn open_session(
@@ -87,8 +78,8 @@ pub(crate) fn open_session(
     request: &Request,
     key: [u8; 20],
 ) -> Result<(), Refusal>
-    ensures answer { result ≡ passing (nat_lt (length (opened sessions.old)) session_limit) TableFull accepted }
-    ensures after { opened sessions.new ≡ (if is_accepted result then opened sessions.old ++ new_session (signed_by request.now) key ∷ [] else opened sessions.old) }
+    ensures answer { result ≡ passing (nat_lt (length sessions.old) session_limit) TableFull accepted }
+    ensures after { sessions.new ≡ (if is_accepted result then sessions.old ++ new_session (signed_by request.now) key ∷ [] else sessions.old) }
 {
     let session = Session {
         id: request.key_number,
@@ -96,14 +87,12 @@ pub(crate) fn open_session(
         key,
         last: 0,
     };
-    match sessions.append(session) {
-        Appended::Done => Ok(()),
-        Appended::Full => Err(Refusal::TableFull),
-    }
+    sessions.append(session)?;
+    Ok(())
 }
 
 pub(crate) fn expire_session(sessions: &mut Sessions, request: &Request)
-    ensures { opened sessions.new ≡ without (signs (signed_by request.now)) (opened sessions.old) }
+    ensures { sessions.new ≡ without (signs (signed_by request.now)) sessions.old }
 {
     sessions.remove(&session_name(request));
 }
@@ -116,10 +105,10 @@ pub(crate) fn cache<P: Verifier>(
     issuer_tag: &[u8],
     public: &P,
 ) -> Result<(), Refusal>
-    ensures answer { result ≡ passing (bytes_eq certificate.device device.now) OtherDevice (passing (P.Verifier.stands public.now certificate.issuer bytes.now issuer_tag.now) BadIssuerTag (listing (any_of (λ c. same_certificate c certificate) (kept certificates.old)) (length (kept certificates.old)) certificate_limit)) }
-    ensures after { kept certificates.new ≡ (if is_accepted result then kept certificates.old ++ certificate ∷ [] else kept certificates.old) }
+    ensures answer { result ≡ passing (bytes_eq certificate.device device.now) OtherDevice (passing (P.Verifier.stands public.now certificate.issuer bytes.now issuer_tag.now) BadIssuerTag (listing (any_of (λ c. same_certificate c certificate) certificates.old) (length certificates.old) certificate_limit)) }
+    ensures after { certificates.new ≡ (if is_accepted result then certificates.old ++ certificate ∷ [] else certificates.old) }
 {
-    if !certificate.device.has_key(device) {
+    if certificate.device != *device {
         return Err(Refusal::OtherDevice);
     }
     if !public.verify(&certificate.issuer, bytes, issuer_tag) {

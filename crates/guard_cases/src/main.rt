@@ -2,7 +2,7 @@
 // writes 0, or the stage and the code of the refusal. At the end it writes how many commands the relay panel has done.
 #![tactic(auto)]
 
-use anyhow::anyhow;
+use anyhow::Context;
 use guard::Guard;
 use parties::hmac_verifier::HmacVerifier;
 use parties::relay_panel::RelayPanel;
@@ -20,9 +20,9 @@ fn answer(
     panel: &mut RelayPanel,
     digits: &str,
 ) -> anyhow::Result<String> {
-    let Some(bytes) = hexadecimal::bytes_named(heap, digits.as_bytes())? else {
-        return Err(anyhow!("not hexadecimal digits"));
-    };
+    let bytes = hexadecimal::bytes_named(heap, digits.as_bytes())?.context(
+        "not hexadecimal digits",
+    )?;
     let delivered = guard.deliver(
         bytes.as_slice(),
         CONTROL,
@@ -33,11 +33,7 @@ fn answer(
     );
     Ok(match delivered {
         Ok(()) => format!(in heap; "0")?,
-        Err(why) => {
-            let stage = why.stage();
-            let code = why.code();
-            format!(in heap; "{stage} {code}")?
-        }
+        Err(why) => format!(in heap; "{why}")?,
     })
 }
 

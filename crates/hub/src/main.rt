@@ -3,6 +3,7 @@
 
 use account::Account;
 use anyhow::anyhow;
+use hexadecimal::Digits;
 use script::play::play;
 use std::io::{Read, Write};
 use std::{env, fs};
@@ -23,11 +24,8 @@ fn input(rt: &HostRuntime) -> anyhow::Result<Vec<u8>> {
 fn report(rt: &HostRuntime, account: &Account) -> anyhow::Result<()> {
     rt.print(account.counts(rt.alloc())?)?;
     for hash in account.repeated(rt.alloc())?.iter() {
-        let mut line = Vec::new(rt.alloc());
-        line.extend_from_slice(b"# came more than once: ")?;
-        hexadecimal::push(&mut line, hash)?;
-        line.push(b'\n')?;
-        rt.stdout().write_all(line.as_slice())?;
+        let digits = Digits { bytes: hash };
+        println!(rt; "# came more than once: {digits}")?;
     }
     Ok(())
 }

@@ -1,9 +1,10 @@
 -- The escaped hash element: 64 fixed bytes, the 28 characters, 27 fixed bytes.
-use Rattle.std.proofs.Common.{◌≡◌, ℕ, ◌+◌, ◌/◌, ◌%◌, cond, List, ◌++◌, map, length, get_or, take, drop, Ok, Err, sym, refl, ap, ◌∙◌, arith}
+use Rattle.std.proofs.Common.{◌≡◌, ℕ, ◌/◌, ◌%◌, cond, List, ◌++◌, map, length, get_or, take, drop, Ok, Err, sym, refl, ap, ◌∙◌, arith}
+use borrow.Rule.Slice.PartMut.{put_mid}
 use Rattle.std.specs.Int.Digits.{number_from_digits}
 use Rattle.std.specs.Str.{bytes_eq}
 use Rattle.std.proofs.lemmas.Slice.Eq.{bytes_eq-Decides}
-use Rattle.std.proofs.lemmas.List.{append_assoc, append_cancel_left, append_cancel_right, length-append, take-append-drop, take_at, take_all, take-append-le, drop_at, drop-drop, get_or_append_left}
+use Rattle.std.proofs.lemmas.List.{append_assoc, append-nil, drop_all, length-drop, append_cancel_left, append_cancel_right, length-append, take-append-drop, take_at, take-append-le, drop_at, get_or_append_left}
 use Rattle.std.proofs.lemmas.Bool.Decides.{same_from_decides, Decides-like}
 use Rattle.refusal.specs.declared.Refusal.TheVariants.{Malformed}
 use Rattle.keyhash.specs.Canonical.{Canonical}
@@ -25,19 +26,17 @@ drop-element : (hash : List ℕ) → drop 64 (element hash) ≡ text hash ++ clo
 unfolding element
 drop-element hash = drop_at opening (text hash ++ closing) 64 length-opening
 
-take-element : (hash : List ℕ) → take 64 (element hash) ≡ opening
-unfolding element
-take-element hash = take_at opening (text hash ++ closing) 64 length-opening
+pub length-parts : (value : List ℕ) → length value ≡ 28 → length (opening ++ (value ++ closing)) ≡ 119
+length-parts value long =
+    let whole = length-append opening (value ++ closing) in
+    let rest = length-append value closing in
+    omega (arith, whole, rest, length-opening, length-closing)
 
-end_element : (hash : List ℕ) → drop 92 (element hash) ≡ closing
-end_element hash = sym (drop-drop 28 64 (element hash)) ∙ ap (drop 28) (drop-element hash) ∙ drop_at (text hash) closing 28 (length-text hash)
+pub opening_of_parts : (value : List ℕ) → take 64 (opening ++ (value ++ closing)) ≡ opening
+opening_of_parts value = take_at opening (value ++ closing) 64 length-opening
 
-length-element : (hash : List ℕ) → length (element hash) ≡ 119
-unfolding element
-length-element hash =
-    let whole = length-append opening (text hash ++ closing) in
-    let rest = length-append (text hash) closing in
-    omega (arith, whole, rest, length-opening, length-closing, length-text hash)
+pub closing_of_parts : (value : List ℕ) → length value ≡ 28 → drop 28 (drop 64 (opening ++ (value ++ closing))) ≡ closing
+closing_of_parts value long = ap (drop 28) (drop_at opening (value ++ closing) 64 length-opening) ∙ drop_at value closing 28 long
 
 pub element_canonical : Canonical element reading_element
 unfolding reading_element
@@ -59,14 +58,9 @@ module _ (bytes : List ℕ) where
   unfolding reading_element
   refuses none = inverse.refuses element (λ b. spelled (drop 64 b)) bytes (none (spelled (drop 64 bytes)))
 
-  pub refuses_length : (length bytes ≡ 119 → ⊥) → reading_element bytes ≡ Err Malformed
-  refuses_length no_length = refuses (λ hash e. no_length (ap length e ∙ length-element hash))
-
-  pub refuses_opening : (take 64 bytes ≡ opening → ⊥) → reading_element bytes ≡ Err Malformed
-  refuses_opening no-opening = refuses (λ hash e. no-opening (ap (take 64) e ∙ take-element hash))
-
-  pub refuses_closing : (drop 92 bytes ≡ closing → ⊥) → reading_element bytes ≡ Err Malformed
-  refuses_closing no-closing = refuses (λ hash e. no-closing (ap (drop 92) e ∙ end_element hash))
+  pub refuses_parts : ((value : List ℕ) → length value ≡ 28 → bytes ≡ opening ++ (value ++ closing) → ⊥) → reading_element bytes ≡ Err Malformed
+  unfolding element
+  refuses_parts none = refuses (λ hash e. none (text hash) (length-text hash) e)
 
   pub refuses_stray_bits : StrayBits (drop 64 bytes) → reading_element bytes ≡ Err Malformed
   refuses_stray_bits stray = refuses (λ hash e. stray (ap (λ xs. digit_of (get_or (drop 64 xs) 26 0) % 4) e ∙ no_stray hash))
@@ -97,17 +91,22 @@ module _ (bytes chars : List ℕ) (long : length chars ≡ 28) (is : bytes ≡ o
       ∙ ap (λ b. cond b (Ok (spelled chars)) (Err Malformed)) (same_element (spelled chars))
 
 -- three parts written one behind the other fill the whole
-pub filled : (first second whole p q s : List ℕ) (v w : ℕ) → v ≡ length p → w ≡ v + length q → length whole ≡ w + length s → take v first ≡ p → take (v + length q) second ≡ take v first ++ q → take (w + length s) whole ≡ take w second ++ s → whole ≡ p ++ (q ++ s)
-filled first second whole p q s v w ev ew el one two three =
-    sym (take_all (w + length s) whole (omega arith))
-    ∙ three
-    ∙ ap (λ xs. xs ++ s) (ap (λ n. take n second) ew ∙ two ∙ ap (λ xs. xs ++ q) one)
+pub filled : (p q s rest : List ℕ) → length p ≡ 64 → length q ≡ 28 → length s ≡ 27 → length rest ≡ 55 → put_mid 92 27 (put_mid 64 28 (p ++ rest) q) s ≡ p ++ (q ++ s)
+filled p q s rest first second third room =
+    let front : length (p ++ q) ≡ 92 = (let both = length-append p q in omega arith) in
+    let last : length (drop 28 rest) ≡ 27 = simp length-drop (omega arith) in
+    let two : put_mid 64 28 (p ++ rest) q ≡ (p ++ q) ++ drop 28 rest =
+    ap (λ xs. xs ++ (q ++ drop 28 (drop 64 (p ++ rest)))) (take_at p rest 64 first) ∙ ap (λ xs. p ++ (q ++ drop 28 xs)) (drop_at p rest 64 first) ∙ sym (append_assoc p q (drop 28 rest)) in
+    ap (λ xs. put_mid 92 27 xs s) two
+    ∙ ap (λ xs. xs ++ (s ++ drop 27 (drop 92 ((p ++ q) ++ drop 28 rest)))) (take_at (p ++ q) (drop 28 rest) 92 front)
+    ∙ ap (λ xs. (p ++ q) ++ (s ++ drop 27 xs)) (drop_at (p ++ q) (drop 28 rest) 92 front)
+    ∙ ap (λ xs. (p ++ q) ++ (s ++ xs)) (drop_all 27 (drop 28 rest) (omega arith))
+    ∙ ap (λ xs. (p ++ q) ++ xs) (append-nil s)
     ∙ append_assoc p q s
 
 -- and three parts of a list are the whole
-pub in_three : (bytes p q s : List ℕ) → take 64 bytes ≡ p → take 28 (drop 64 bytes) ≡ q → drop 92 bytes ≡ s → bytes ≡ p ++ (q ++ s)
+pub in_three : (bytes p q s : List ℕ) → take 64 bytes ≡ p → take 28 (drop 64 bytes) ≡ q → drop 28 (drop 64 bytes) ≡ s → bytes ≡ p ++ (q ++ s)
 in_three bytes p q s one two three =
     let cut = take-append-drop 64 bytes in
     let again = take-append-drop 28 (drop 64 bytes) in
-    let rest = drop-drop 28 64 bytes in
     cc

@@ -1,15 +1,13 @@
 -- A number and its digits in a fixed count are each other's inverse.
-use Rattle.std.proofs.Common.{◌≡◌, ℕ, zero, suc, ◌+◌, ◌-◌, ◌*◌, ◌/◌, ◌%◌, ◌^◌, ◌<◌, ◌≤◌, List, [], ◌∷◌, ◌++◌, map, length, get_or, take, drop, set, sym, refl, ap, ◌∙◌, subst, mod-lt, div-lt_iff_lt-mul, pow-suc, div-add-mod', div-one, add-one, arith}
+use Rattle.std.proofs.Common.{◌≡◌, ℕ, zero, suc, ◌+◌, ◌-◌, ◌*◌, ◌/◌, ◌%◌, ◌^◌, ◌<◌, ◌≤◌, List, [], ◌∷◌, ◌++◌, map, length, get_or, take, sym, refl, ap, ◌∙◌, subst, mod-lt, div-lt_iff_lt-mul, pow-suc, div-add-mod', div-one, add-one, arith}
 use native.Mathlib.Nat.{div-div-eq-div-mul, pow-succ', pow-zero}
 use lib.Arith.{digits_div, digits_mod}
-use borrow.Rule.Slice.PartMut.{put_mid}
 use Rattle.std.specs.List.{range_with_len}
-use Rattle.std.specs.Int.Digits.{number_from_digits, number_from_digits_after, AllBelowBase}
+use Rattle.std.specs.Int.Digits.{number_from_digits, AllBelowBase}
 use Rattle.std.proofs.lemmas.List.FromFn.{length-map-range_with_len, get_or-map-range_with_len, map-range_with_len_more, fill_by_all}
-use Rattle.std.proofs.lemmas.Int.Digits.{number_after_append, number_push, number_more}
-use Rattle.std.proofs.ByRecursion.{All-push, All-set, All-take, All-drop, All-append, All-get_or}
-use Rattle.std.proofs.lemmas.List.{take_more, take_more_set, take_all, length-take-le, length-drop, length-append, length-set}
-use Rattle.std.proofs.lemmas.Slice.{take-put_mid}
+use Rattle.std.proofs.lemmas.Int.Digits.{number_push, number_more}
+use Rattle.std.proofs.ByRecursion.{All-push, All-get_or}
+use Rattle.std.proofs.lemmas.List.{take_more, take_all}
 use Rattle.keyhash.specs.Numeral.{digit_at, numeral}
 
 pub length-numeral : (b n m : ℕ) → length (numeral b n m) ≡ n
@@ -70,33 +68,6 @@ pub numeral_of_number : (b n : ℕ) (ds : List ℕ) → AllBelowBase b ds → le
 numeral_of_number b n ds u e =
     let all = take_all n ds (omega arith) in
     ap (λ xs. numeral b n (number_from_digits b xs)) (sym all) ∙ numeral_take b ds n u (omega arith) ∙ all
-
--- the first n of size digits are written, and they write the number m
-abbrev pub Written : ℕ → ℕ → ℕ → ℕ → List ℕ → Type 0
-Written b size n m ds = (length ds ≡ size) × AllBelowBase b ds × (number_from_digits b (take n ds) ≡ m)
-
--- one digit more; k is n + 1
-pub written_more : (b size n k m d : ℕ) (ds : List ℕ) → n < size → n + 1 ≡ k → d < b → Written b size n m ds → Written b size k (m * b + d) (set ds n d)
-written_more b size n k m d ds l e small w =
-    let is : number_from_digits b (take (n + 1) (set ds n d)) ≡ m * b + d = ap (number_from_digits b) (take_more_set ds n d (omega arith)) ∙ number_push b (take n ds) d ∙ ap (λ x. x * b + d) w.2 in
-    (length-set ds n d ∙ w.0, All-set (λ x. x < b) ds n d small w.1, ap (λ j. number_from_digits b (take j (set ds n d))) (sym e) ∙ is)
-
--- a part more, written at once; k is where it ends, and w its length
-pub written_part : (b size n k m w : ℕ) (part ds : List ℕ) → n + w ≡ k → k ≤ size → length part ≡ w → AllBelowBase b part → Written b size n m ds → Written b size k (number_from_digits_after b m part) (put_mid n w ds part)
-written_part b size n k m w part ds ends inside long under (size_is, small, is) =
-    let front : take k (put_mid n w ds part) ≡ take n ds ++ part = take-put_mid n w ds part k (omega arith) (omega arith) in
-    let rest = drop w (drop n ds) in (
-      length-append (take n ds) (part ++ rest) ∙ ap (λ x. length (take n ds) + x) (length-append part rest)
-          ∙ (let p = length-take-le n ds (omega arith) in let q = length-drop w (drop n ds) in let r = length-drop n ds in omega arith),
-      All-append (λ d. d < b) (take n ds) (part ++ rest) (All-take (λ d. d < b) n ds small) (All-append (λ d. d < b) part rest under (All-drop (λ d. d < b) w (drop n ds) (All-drop (λ d. d < b) n ds small))),
-      ap (number_from_digits b) front ∙ number_after_append b 0 (take n ds) part ∙ ap (λ x. number_from_digits_after b x part) is,
-    )
-
--- the digits written are those of the number
-pub written_digits : (b size n m : ℕ) (ds : List ℕ) → n ≤ size → Written b size n m ds → take n ds ≡ numeral b n m
-written_digits b size n m ds l w =
-    let long : length (take n ds) ≡ n = length-take-le n ds (omega arith) in
-    sym (numeral_of_number b n (take n ds) (All-take (λ d. d < b) n ds w.1) long) ∙ ap (numeral b n) w.2
 
 -- the number of one element more of a list; k is n + 1
 pub number_next : (b : ℕ) (ds : List ℕ) (n k : ℕ) {m : ℕ} → n < length ds → n + 1 ≡ k → number_from_digits b (take n ds) ≡ m → number_from_digits b (take k ds) ≡ m * b + get_or ds n 0

@@ -1,10 +1,11 @@
 -- The 28 characters of a hash, and the hash that 28 characters spell.
-use Rattle.std.proofs.Common.{◌≡◌, ℕ, ◌+◌, ◌*◌, ◌/◌, ◌%◌, ◌^◌, ◌<◌, ◌≤◌, true, ◌&&◌, eqb, List, [], ◌∷◌, ◌++◌, map, length, get_or, take, set, Ok, Err, sym, refl, ap, ◌∙◌, subst, arith, rules}
+use Rattle.std.proofs.Common.{◌≡◌, ℕ, Bool, All, fold, nat_lt, Decides, ◌+◌, ◌*◌, ◌/◌, ◌%◌, ◌^◌, ◌<◌, true, ◌&&◌, eqb, List, [], ◌∷◌, ◌++◌, map, length, get_or, take, Ok, Err, sym, refl, ap, ◌∙◌, subst, arith, rules}
 use Rattle.std.specs.Int.Digits.{number_from_digits, AllBelowBase}
 use Rattle.std.proofs.lemmas.Int.Digits.{number_lt}
-use Rattle.std.proofs.ByRecursion.{All-get_or, All-from_get_or, All-take, All-append}
-use Rattle.std.proofs.lemmas.List.{map-append, length-map, length_push, length-append, length-take-le, take_at, take_all, take_more, take_more_set, get_or_at, get_or-map, get_or-take, get_or_append_left, append_assoc, append-nil}
-use Rattle.std.proofs.lemmas.Bool.Decides.{nat_tests, Decides-and, Decides-eqb}
+use Rattle.std.proofs.ByRecursion.{All-append, All-take}
+use Rattle.std.proofs.lemmas.List.{map-append, length-map, length_push, length-append, length-take-le, take_at, take_all, take_more, get_or_at, get_or-map, get_or-take, get_or_append_left, append_assoc, append-nil}
+use Rattle.std.proofs.lemmas.List.Elements.{All-from_recursion, recursion_from_All}
+use Rattle.std.proofs.lemmas.Bool.Decides.{nat_tests, Decides-and, Decides-eqb, Decides-ltb}
 use Rattle.refusal.specs.declared.Refusal.TheVariants.{Malformed}
 use Rattle.keyhash.specs.Canonical.{KeyHash, Canonical}
 use Rattle.keyhash.specs.Numeral.{numeral}
@@ -12,18 +13,18 @@ use Rattle.keyhash.specs.Base64.{character, digit_of, padding, bit_string, text,
 use Rattle.keyhash.proofs.Numbers.{length-numeral, under_numeral, numeral-step, number_of_numeral, numeral_of_number, number_next}
 use Rattle.keyhash.proofs.Inverse as inverse
 
--- a loop that maps a list, one element on
-pub map_more : (f : ℕ → ℕ) (xs out : List ℕ) (i y : ℕ) → i < length xs → i < length out → y ≡ f (get_or xs i 0) → take i out ≡ map f (take i xs) → take (i + 1) (set out i y) ≡ map f (take (i + 1) xs)
-map_more f xs out i y l m e is =
-    take_more_set out i y m
-    ∙ ap (λ ys. ys ++ y ∷ []) is
-    ∙ ap (λ z. map f (take i xs) ++ z ∷ []) e
-    ∙ sym (map-append f (take i xs) (get_or xs i 0 ∷ []))
-    ∙ ap (map f) (sym (take_more xs i 0 l))
+-- the test that goes over all digits
+below_test : (start : Bool) (ds : List ℕ) → Decides (fold (λ all d. all && nat_lt d 64) start ds) ((start ≡ true) × AllBelowBase 64 ds)
+below_test start [] = ((λ e. (e, tt)), (λ both. both.0))
+below_test start (d ∷ ds) =
+    let step = Decides-and start (nat_lt d 64) ((λ e. e), (λ e. e)) (Decides-ltb d 64) in
+    let rest = below_test (start && nat_lt d 64) ds in
+    ((λ e. let all = rest.0 e in let first = step.0 all.0 in (first.0, (first.1, all.1))), (λ all. rest.1 (step.1 (all.0, all.1.0), all.1.1)))
 
--- and at its end
-pub map_all : (f : ℕ → ℕ) (xs out : List ℕ) (n : ℕ) → length xs ≤ n → length out ≤ n → take n out ≡ map f (take n xs) → out ≡ map f xs
-map_all f xs out n l m is = sym (take_all n out m) ∙ is ∙ ap (map f) (take_all n xs l)
+pub all_below_test : (ds : List ℕ) (all : Bool) → all ≡ fold (λ all d. all && nat_lt d 64) true ds → Decides all (All (λ d. d < 64) ds)
+all_below_test ds all is =
+    let test = below_test true ds in
+    ((λ e. All-from_recursion (λ d. d < 64) ds (test.0 (sym is ∙ e)).1), (λ under. is ∙ test.1 (refl, recursion_from_All (λ d. d < 64) ds under)))
 
 digit_of_character : (v : ℕ) → v < 64 → digit_of (character v) ≡ v
 digit_of_character v h = grind (arith, nat_tests)
@@ -144,18 +145,18 @@ module _ (chars ds : List ℕ) (len : length chars ≡ 28) (are : ds ≡ map dig
       ∙ get_or-map digit_of (take 27 chars) 26 0 0 (omega (arith, front))
       ∙ ap digit_of (get_or-take 27 chars 26 0 (omega arith))
 
-  pub readable_from_digits : get_or chars 27 0 ≡ 61 → ((k : ℕ) → k < 32 → get_or ds k 0 < 64) → get_or ds 26 0 % 4 ≡ 0 → Readable chars
+  pub readable_from_digits : get_or chars 27 0 ≡ 61 → All (λ d. d < 64) ds → get_or ds 26 0 % 4 ≡ 0 → Readable chars
   readable_from_digits padded small zeros =
       record {
-        alphabet = subst (AllBelowBase 64) spelled_digits (All-take (λ d. d < 64) 27 ds (All-from_get_or (λ d. d < 64) ds 0 (λ k l. small k (omega (arith, long)))));
+        alphabet = subst (AllBelowBase 64) spelled_digits (All-take (λ d. d < 64) 27 ds (recursion_from_All (λ d. d < 64) ds small));
         padded = padded;
         no_stray = ap (λ d. d % 4) (sym last) ∙ zeros;
       }
 
-  pub digits_of_readable : Readable chars → (k : ℕ) → k < 32 → get_or ds k 0 < 64
-  digits_of_readable good k l =
+  pub digits_of_readable : Readable chars → All (λ d. d < 64) ds
+  digits_of_readable good =
       let zeros : AllBelowBase 64 (map digit_of padding) = search rules in
-      All-get_or (λ d. d < 64) ds k 0 (omega (arith, long)) (subst (AllBelowBase 64) (sym parts) (All-append (λ d. d < 64) _ _ good.alphabet zeros))
+      All-from_recursion (λ d. d < 64) ds (subst (AllBelowBase 64) (sym parts) (All-append (λ d. d < 64) _ _ good.alphabet zeros))
 
   pub last_of_readable : Readable chars → get_or ds 26 0 % 4 ≡ 0
   last_of_readable good = ap (λ d. d % 4) last ∙ good.no_stray

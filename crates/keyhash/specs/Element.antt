@@ -5,17 +5,11 @@ use Rattle.keyhash.specs.Base64.{text, spelled}
 use Rattle.keyhash.specs.Canonical.{read_by}
 
 -- what stands before and after the 28 characters: 64 and 27 bytes
-abbrev pub opening_text : List ℕ
-opening_text = codes "&lt;hash&gt;&lt;algorithm&gt;SHA1&lt;/algorithm&gt;&lt;value&gt;"
-
-abbrev pub closing_text : List ℕ
-closing_text = codes "&lt;/value&gt;&lt;/hash&gt;"
-
 unfoldable pub opening : List ℕ
-opening = opening_text
+opening = codes "&lt;hash&gt;&lt;algorithm&gt;SHA1&lt;/algorithm&gt;&lt;value&gt;"
 
 unfoldable pub closing : List ℕ
-closing = closing_text
+closing = codes "&lt;/value&gt;&lt;/hash&gt;"
 
 -- the element of a hash
 unfoldable pub element : List ℕ → List ℕ

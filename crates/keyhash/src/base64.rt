@@ -1,12 +1,13 @@
 // The value of a key hash: 20 bytes as 28 characters of Base64 (RFC 4648).
-ghost use Rattle.std.specs.Prelude.{◌≡◌, ℕ, ◌+◌, ◌-◌, ◌*◌, ◌/◌, ◌%◌, ◌<◌, ◌≤◌, ◌&&◌, List, [], ◌∷◌, ◌++◌, map, length, take, if◌then◌else◌, Ok, Err, Decides, ◌==◌, nat_le, slice_index};
-ghost use Rattle.std.specs.Int.Digits.{number_from_digits};
+ghost use Rattle.std.specs.Prelude.{◌≡◌, ℕ, ◌-◌, ◌/◌, ◌%◌, ◌<◌, ◌≤◌, ◌&&◌, ◌==◌, [], ◌++◌, All, length, map, fold, take, replicate, slice_index_or, true, nat_le, nat_lt, if◌then◌else◌, Ok, Err};
+ghost use Rattle.std.specs.Int.Digits.{number_from_digits, number_from_digits_after, AllBelowBase};
 ghost use Rattle.refusal.specs.declared.Refusal.TheVariants.{Malformed};
-ghost use Rattle.keyhash.specs.Numeral.{numeral};
+ghost use Rattle.keyhash.specs.Numeral.{numeral, Rewritten};
 ghost use Rattle.keyhash.specs.Canonical.{Canonical};
-ghost use Rattle.keyhash.specs.Base64.{character, digit_of, padding as zeros, AlphabetOfRfc4648, bit_string, text, reading, StrayBits};
+ghost use Rattle.keyhash.specs.Base64.{character, digit_of, AlphabetOfRfc4648, bit_string, text, reading, StrayBits};
 
 use refusal::Refusal;
+use std::array;
 
 // What the digits from `from` on add to a sum, and the others do not.
 fn from_on(v: u8, from: u8, step: u8) -> u8
@@ -24,7 +25,7 @@ fn character_of(v: u8) -> u8
     letter - from_on(v, 52, 75) - from_on(v, 62, 15) + from_on(v, 63, 3)
 }
 
-// What a character that stands for no six bits is read as.
+// What a character that stands for no six bits is read as. With an `Option` for each digit the loop over the characters is not made of vectors: reading then takes eight times as long, and a sixth of the speed of plain Rust.
 const NO_DIGIT: u8 = 64;
 
 // The six bits that a character stands for.
@@ -41,13 +42,12 @@ fn digit_of(c: u8) -> u8
     }
 }
 
-// The loops over characters go over 32 places, of which 27 are used: two whole vectors of sixteen bytes.
-const PLACES: usize = 32;
-
-// The four digits of six bits that three bytes are cut into, built in one word so that they are stored at once.
-fn four_digits(a: u8, b: u8, c: u8) -> [u8; 4]
-    ensures { result ≡ (a / 4) ∷ (a % 4 * 16 + b / 16) ∷ (b % 16 * 4 + c / 64) ∷ (c % 64) ∷ [] }
+// The four digits of six bits that three bytes are cut into, built in one word so that they are stored at once. Behind the same digits, both are the same number.
+fn four_digits(bytes: [u8; 3]) -> [u8; 4]
+    ensures below { AllBelowBase 64 result }
+    ensures same_number { (before : ℕ) → number_from_digits_after 256 before bytes ≡ number_from_digits_after 64 before result }
 {
+    let [a, b, c] = bytes;
     let bits = u32::from_be_bytes([0, a, b, c]);
     let first = bits / 0x4_0000;
     let second = bits / 0x1000 % 64;
@@ -57,11 +57,10 @@ fn four_digits(a: u8, b: u8, c: u8) -> [u8; 4]
 }
 
 // The three bytes that four digits of six bits hold, by one word that is read at once.
-fn three_bytes(s: u8, t: u8, u: u8, v: u8) -> [u8; 3]
-    requires { (s < 64) × (t < 64) × (u < 64) × (v < 64) }
-    ensures { result ≡ (s * 4 + t / 16) ∷ (t % 16 * 16 + u / 4) ∷ (u % 4 * 64 + v) ∷ [] }
+fn three_bytes(digits: [u8; 4]) -> [u8; 3]
+    ensures { AllBelowBase 64 digits → Rewritten 64 256 digits result }
 {
-    let word = u32::from_le_bytes([s, t, u, v]);
+    let word = u32::from_le_bytes(digits);
     let first = word % 64;
     let second = word / 0x100 % 64;
     let third = word / 0x1_0000 % 64;
@@ -70,82 +69,95 @@ fn three_bytes(s: u8, t: u8, u: u8, v: u8) -> [u8; 3]
     [a, b, c]
 }
 
-// The hash's 160 bits and two zero bits, cut into 27 digits of six bits.
-fn cut(hash: [u8; 20]) -> [u8; 32]
-    ensures digits { take 27 result ≡ numeral 64 27 (bit_string hash) }
-    ensures six_bits { (k : ℕ) → k < 32 → slice_index result k < 64 }
+// The bytes of `front`, and `filler` in the places behind them.
+fn padded<const N: usize>(front: &[u8], filler: u8) -> [u8; N]
+    requires { length front.now ≤ N }
+    ensures { result ≡ front.now ++ replicate (N - length front.now) filler }
 {
-    let mut bytes = [0; 21];
-    bytes[0..20].copy_from_slice(&hash);
-    let mut out = [0; PLACES];
-    for i in 0..7 {
-        let group = four_digits(bytes[3 * i], bytes[3 * i + 1], bytes[3 * i + 2]);
-        out[4 * i..4 * i + 4].copy_from_slice(&group);
-    }
+    let mut out = [filler; N];
+    out[..front.len()].copy_from_slice(front);
     out
 }
 
-// The 20 bytes that 27 digits of six bits hold, less the last two bits.
-fn join(digits: [u8; 32]) -> [u8; 20]
-    requires { (k : ℕ) → k < 32 → slice_index digits k < 64 }
-    ensures { result ≡ numeral 256 20 (number_from_digits 64 (take 27 digits) / 4) }
+// The digits of six bits that 24 bytes are cut into.
+fn cut(bytes: &[u8; 24]) -> [u8; 32]
+    ensures { Rewritten 256 64 bytes.now result }
 {
-    let mut out = [0; 21];
-    for i in 0..7 {
-        let group = three_bytes(
-            digits[4 * i],
-            digits[4 * i + 1],
-            digits[4 * i + 2],
-            digits[4 * i + 3],
-        );
-        out[3 * i..3 * i + 3].copy_from_slice(&group);
-    }
-    let mut hash = [0; 20];
-    hash.copy_from_slice(&out[0..20]);
-    hash
+    let threes = bytes.as_chunks::<3>().0;
+    let fours: [[u8; 4]; 8] = array::from_fn(
+        |i: usize|
+            requires { i < length threes.now }
+            ensures { Rewritten 256 64 (slice_index_or threes.entry.now i []) result }
+        { four_digits(threes[i]) },
+    );
+    let mut digits = [0; 32];
+    digits.copy_from_slice(fours.as_flattened());
+    digits
 }
 
-// The character of each digit.
-fn characters_of(digits: [u8; 32]) -> [u8; 32]
-    requires { (k : ℕ) → k < 32 → slice_index digits k < 64 }
-    ensures { result ≡ map character digits }
+// The bytes that 32 digits of six bits hold. It is `cut` the other way; one function for both would take four sizes and a closure.
+fn join(digits: &[u8; 32]) -> [u8; 24]
+    ensures { AllBelowBase 64 digits.now → Rewritten 64 256 digits.now result }
 {
-    let mut out = [0; PLACES];
-    for i in 0..PLACES {
-        out[i] = character_of(digits[i]);
-    }
-    out
+    let fours = digits.as_chunks::<4>().0;
+    let threes: [[u8; 3]; 8] = array::from_fn(
+        |i: usize|
+            requires { i < length fours.now }
+            ensures { AllBelowBase 64 (slice_index_or fours.entry.now i []) → Rewritten 64 256 (slice_index_or fours.entry.now i []) result }
+        { three_bytes(fours[i]) },
+    );
+    let mut bytes = [0; 24];
+    bytes.copy_from_slice(threes.as_flattened());
+    bytes
 }
 
-// The digit of each character.
+// The digit of each character. `map` of arrays moves the elements one by one, and reading then takes ten times as long.
 fn digits_of(chars: [u8; 32]) -> [u8; 32]
     ensures { result ≡ map digit_of chars }
 {
-    let mut out = [0; PLACES];
-    for i in 0..PLACES {
-        out[i] = digit_of(chars[i]);
-    }
-    out
+    array::from_fn(|i| digit_of(chars[i]))
 }
 
-// The first 27 characters, and five that stand for 0.
-fn padded(chars: [u8; 28]) -> [u8; 32]
-    ensures { result ≡ take 27 chars ++ zeros }
-{
-    let mut out = [b'A'; PLACES];
-    out[0..27].copy_from_slice(&chars[0..27]);
-    out
-}
-
-// Whether each of the digits is one of six bits. Every digit is looked at, so that the loop has no branch.
+// Whether each of the digits is one of six bits. Every digit is looked at, so that the loop has no branch: with `all` reading is slower than plain Rust.
 fn all_of_six_bits(digits: [u8; 32]) -> bool
-    ensures { Decides result ((k : ℕ) → k < 32 → slice_index digits k < 64) }
+    ensures { result ≡ fold (λ all digit. all && nat_lt digit 64) true digits }
 {
-    let mut all = true;
-    for i in 0..PLACES {
-        all = all & (digits[i] < NO_DIGIT);
+    digits
+        .iter()
+        .fold(true, |all, digit| all & (*digit < NO_DIGIT))
+}
+
+// Digits of six bits in two whole vectors of sixteen bytes, of which those of a hash are the first 27.
+#[derive(Drop)]
+struct Digits {
+    places: [u8; 32],
+    ghost of_six_bits: { All (λ digit. digit < 64) places },
+}
+
+impl Digits {
+    // The hash's 160 bits and two zero bits, cut into digits.
+    fn of_hash(hash: [u8; 20]) -> Digits
+        ensures { take 27 result.places ≡ numeral 64 27 (bit_string hash) }
+    {
+        let places = cut(&padded(&hash, 0));
+        Digits { places }
     }
-    all
+
+    // The 20 bytes that the first 27 digits hold, less the last two bits.
+    fn hash(&self) -> [u8; 20]
+        ensures { result ≡ numeral 256 20 (number_from_digits 64 (take 27 self.now.places) / 4) }
+    {
+        let mut hash = [0; 20];
+        hash.copy_from_slice(&join(&self.places)[..20]);
+        hash
+    }
+
+    // The character of each digit.
+    fn characters(&self) -> [u8; 32]
+        ensures { result ≡ map character self.now.places }
+    {
+        array::from_fn(|i| character_of(self.places[i]))
+    }
 }
 
 // Whether the last digit has no stray bits, and '=' stands behind it.
@@ -161,10 +173,7 @@ pub fn encode(hash: [u8; 20]) -> [u8; 28]
     ensures reads_back { reading result ≡ Ok hash }
     ensures alphabet_of_rfc_4648 { AlphabetOfRfc4648 }
 {
-    let chars = characters_of(cut(hash));
-    let mut out = [b'='; 28];
-    out[0..27].copy_from_slice(&chars[0..27]);
-    out
+    padded(&Digits::of_hash(hash).characters()[..27], b'=')
 }
 
 // The hash of which the characters are the canonical text.
@@ -173,9 +182,10 @@ pub fn decode(chars: [u8; 28]) -> Result<[u8; 20], Refusal>
     ensures reader_and_writer_are_inverse { Canonical text reading }
     ensures stray_bits_are_refused { StrayBits chars → result ≡ Err Malformed }
 {
-    let digits = digits_of(padded(chars));
-    if !all_of_six_bits(digits) || !ends_canonically(digits[26], chars[27]) {
+    // Tested here: a function that answers `Option<Digits>` passes the places through memory, and reading takes a fifth longer.
+    let places = digits_of(padded(&chars[..27], b'A'));
+    if !all_of_six_bits(places) || !ends_canonically(places[26], chars[27]) {
         return Err(Refusal::Malformed);
     }
-    Ok(join(digits))
+    Ok(Digits { places }.hash())
 }

@@ -1,29 +1,17 @@
 // The text of a key hash as consoles send it: the escaped hash element, 119 bytes.
-ghost use Rattle.std.specs.Prelude.{◌≡◌, ℕ, ◌+◌, ◌<◌, ◌≤◌, List, ◌++◌, length, take, drop, Ok, Err, Decides};
+ghost use Rattle.std.specs.Prelude.{◌≡◌, ◌≢◌, ℕ, List, ◌++◌, length, drop, Ok, Err, IfSome, IfNone};
 ghost use Rattle.refusal.specs.declared.Refusal.TheVariants.{Malformed};
 ghost use Rattle.keyhash.specs.Canonical.{Canonical};
 ghost use Rattle.keyhash.specs.Base64.{StrayBits};
-ghost use Rattle.keyhash.specs.Element.{opening_text, closing_text, element, reading_element};
+ghost use Rattle.keyhash.specs.Element.{opening, closing, element, reading_element};
 
 use crate::base64;
 use refusal::Refusal;
 
 // What stands before the 28 characters of the value, and after them.
-pub const OPENING: &[u8] = b"&lt;hash&gt;&lt;algorithm&gt;SHA1&lt;/algorithm&gt;&lt;value&gt;";
+pub const OPENING: &[u8; 64] = b"&lt;hash&gt;&lt;algorithm&gt;SHA1&lt;/algorithm&gt;&lt;value&gt;";
 
-pub const CLOSING: &[u8] = b"&lt;/value&gt;&lt;/hash&gt;";
-
-fn opening_bytes() -> &'static [u8]
-    ensures { result.now ≡ opening_text }
-{
-    OPENING
-}
-
-fn closing_bytes() -> &'static [u8]
-    ensures { result.now ≡ closing_text }
-{
-    CLOSING
-}
+pub const CLOSING: &[u8; 27] = b"&lt;/value&gt;&lt;/hash&gt;";
 
 // Where the value begins and ends, and the length of the whole.
 const VALUE: usize = 64;
@@ -32,39 +20,32 @@ const VALUE_END: usize = 92;
 
 pub const LENGTH: usize = 119;
 
-// Writes `part` into `out` from `at` on, and answers where it ends.
-fn put(out: &mut [u8], at: usize, part: &[u8]) -> usize
-    requires { at + length part.now ≤ length out.old }
-    ensures end { result ≡ at + length part.now }
-    ensures front { take (at + length part.now) out.new ≡ take at out.old ++ part.now }
-{
-    let end = at + part.len();
-    out[at..end].copy_from_slice(part);
-    end
-}
-
 // The element of a hash.
 pub fn write(hash: [u8; 20]) -> [u8; 119]
     ensures canonical_text { result ≡ element hash }
     ensures reads_back { reading_element result ≡ Ok hash }
 {
     let mut out = [0; LENGTH];
-    let value = put(&mut out, 0, opening_bytes());
-    let closing = put(&mut out, value, &base64::encode(hash));
-    put(&mut out, closing, closing_bytes());
+    out[..VALUE].copy_from_slice(OPENING);
+    out[VALUE..VALUE_END].copy_from_slice(&base64::encode(hash));
+    out[VALUE_END..].copy_from_slice(CLOSING);
     out
 }
 
-// Whether two texts of one length are the same bytes. Every byte is looked at, so that the loop has no branch.
-fn same(a: &[u8], b: &[u8]) -> bool
-    requires { length a.now ≡ length b.now }
-    ensures { Decides result (a.now ≡ b.now) }
+// What stands between the opening and the closing. Arrays of constant sizes are compared: with `strip_prefix` and `strip_suffix` reading is slower than plain Rust.
+fn value_in(bytes: &[u8]) -> Option<&[u8; 28]>
+    ensures some { IfSome result (λ value. (length value.now ≡ 28) × (bytes.now ≡ opening ++ (value.now ++ closing))) }
+    ensures none { IfNone result ((value : List ℕ) → length value ≡ 28 → bytes.now ≢ opening ++ (value ++ closing)) }
 {
-    let mut all = true;
-    for i in 0..a.len() {
-        all = all & (a[i] == b[i]);
+    let whole: &[u8; LENGTH] = bytes.as_array()?;
+    let (opening, rest) = whole.split_first_chunk::<VALUE>()?;
+    let (value, closing) = rest.split_first_chunk()?;
+    let closing = closing.as_array()?;
+    if opening == OPENING && closing == CLOSING {
+        Some(value)
+    } else {
+        None
     }
-    all
 }
 
 // The hash of which the bytes are the element.
@@ -73,15 +54,6 @@ pub fn read(bytes: &[u8]) -> Result<[u8; 20], Refusal>
     ensures reader_and_writer_are_inverse { Canonical element reading_element }
     ensures stray_bits_are_refused { StrayBits (drop 64 bytes.now) → result ≡ Err Malformed }
 {
-    if bytes.len() != LENGTH {
-        return Err(Refusal::Malformed);
-    }
-    if !same(&bytes[0..VALUE], opening_bytes())
-        || !same(&bytes[VALUE_END..LENGTH], closing_bytes())
-    {
-        return Err(Refusal::Malformed);
-    }
-    let mut chars = [0; 28];
-    chars.copy_from_slice(&bytes[VALUE..VALUE_END]);
-    base64::decode(chars)
+    let value = value_in(bytes).ok_or(Refusal::Malformed)?;
+    base64::decode(*value)
 }

@@ -7,71 +7,56 @@ mod tests {
     use keyhash::{base64, element};
     use refusal::Refusal;
 
-    #[derive(Clone, Copy)]
-    struct Vector {
-        hash: [u8; 20],
-        text: [u8; 28],
-    }
-
-    fn pair(hash: &[u8; 20], text: &[u8; 28]) -> Vector {
-        Vector {
-            hash: *hash,
-            text: *text,
-        }
-    }
-
-    fn vectors() -> [Vector; 12] {
-        [
-            pair(
-                b"\x00\x00\x00\x00\x00\x00\x00\x00\x00\x00\x00\x00\x00\x00\x00\x00\x00\x00\x00\x00",
-                b"AAAAAAAAAAAAAAAAAAAAAAAAAAA=",
-            ),
-            pair(
-                b"\xff\xff\xff\xff\xff\xff\xff\xff\xff\xff\xff\xff\xff\xff\xff\xff\xff\xff\xff\xff",
-                b"//////////////////////////8=",
-            ),
-            pair(
-                b"\x00\x01\x02\x03\x04\x05\x06\x07\x08\x09\x0a\x0b\x0c\x0d\x0e\x0f\x10\x11\x12\x13",
-                b"AAECAwQFBgcICQoLDA0ODxAREhM=",
-            ),
-            pair(
-                b"\xff\xfe\xfd\xfc\xfb\xfa\xf9\xf8\xf7\xf6\xf5\xf4\xf3\xf2\xf1\xf0\xef\xee\xed\xec",
-                b"//79/Pv6+fj39vX08/Lx8O/u7ew=",
-            ),
-            pair(
-                b"\x00\x10\x83\x10\x51\x87\x20\x92\x8b\x30\xd3\x8f\x41\x14\x93\x51\x55\x97\x61\x96",
-                b"ABCDEFGHIJKLMNOPQRSTUVWXYZY=",
-            ),
-            pair(
-                b"\x69\xb7\x1d\x79\xf8\x21\x8a\x39\x25\x9a\x7a\x29\xaa\xbb\x2d\xba\xfc\x31\xcb\x36",
-                b"abcdefghijklmnopqrstuvwxyzY=",
-            ),
-            pair(
-                b"\xd3\x5d\xb7\xe3\x9e\xbb\xf3\xdf\xbf\xd3\x5d\xb7\xe3\x9e\xbb\xf3\xdf\xbf\xd3\x55",
-                b"0123456789+/0123456789+/01U=",
-            ),
-            pair(
-                b"\x80\x00\x00\x00\x00\x00\x00\x00\x00\x00\x00\x00\x00\x00\x00\x00\x00\x00\x00\x00",
-                b"gAAAAAAAAAAAAAAAAAAAAAAAAAA=",
-            ),
-            pair(
-                b"\x00\x00\x00\x00\x00\x00\x00\x00\x00\x00\x00\x00\x00\x00\x00\x00\x00\x00\x00\x01",
-                b"AAAAAAAAAAAAAAAAAAAAAAAAAAE=",
-            ),
-            pair(
-                b"\xa9\x99\x3e\x36\x47\x06\x81\x6a\xba\x3e\x25\x71\x78\x50\xc2\x6c\x9c\xd0\xd8\x9d",
-                b"qZk+NkcGgWq6PiVxeFDCbJzQ2J0=",
-            ),
-            pair(
-                b"\xda\x39\xa3\xee\x5e\x6b\x4b\x0d\x32\x55\xbf\xef\x95\x60\x18\x90\xaf\xd8\x07\x09",
-                b"2jmj7l5rSw0yVb/vlWAYkK/YBwk=",
-            ),
-            pair(
-                b"\xaa\xaa\xaa\xaa\xaa\xaa\xaa\xaa\xaa\xaa\xaa\xaa\xaa\xaa\xaa\xaa\xaa\xaa\xaa\xaa",
-                b"qqqqqqqqqqqqqqqqqqqqqqqqqqo=",
-            ),
-        ]
-    }
+    const VECTORS: [(&[u8; 20], &[u8; 28]); 12] = [
+        (
+            b"\x00\x00\x00\x00\x00\x00\x00\x00\x00\x00\x00\x00\x00\x00\x00\x00\x00\x00\x00\x00",
+            b"AAAAAAAAAAAAAAAAAAAAAAAAAAA=",
+        ),
+        (
+            b"\xff\xff\xff\xff\xff\xff\xff\xff\xff\xff\xff\xff\xff\xff\xff\xff\xff\xff\xff\xff",
+            b"//////////////////////////8=",
+        ),
+        (
+            b"\x00\x01\x02\x03\x04\x05\x06\x07\x08\x09\x0a\x0b\x0c\x0d\x0e\x0f\x10\x11\x12\x13",
+            b"AAECAwQFBgcICQoLDA0ODxAREhM=",
+        ),
+        (
+            b"\xff\xfe\xfd\xfc\xfb\xfa\xf9\xf8\xf7\xf6\xf5\xf4\xf3\xf2\xf1\xf0\xef\xee\xed\xec",
+            b"//79/Pv6+fj39vX08/Lx8O/u7ew=",
+        ),
+        (
+            b"\x00\x10\x83\x10\x51\x87\x20\x92\x8b\x30\xd3\x8f\x41\x14\x93\x51\x55\x97\x61\x96",
+            b"ABCDEFGHIJKLMNOPQRSTUVWXYZY=",
+        ),
+        (
+            b"\x69\xb7\x1d\x79\xf8\x21\x8a\x39\x25\x9a\x7a\x29\xaa\xbb\x2d\xba\xfc\x31\xcb\x36",
+            b"abcdefghijklmnopqrstuvwxyzY=",
+        ),
+        (
+            b"\xd3\x5d\xb7\xe3\x9e\xbb\xf3\xdf\xbf\xd3\x5d\xb7\xe3\x9e\xbb\xf3\xdf\xbf\xd3\x55",
+            b"0123456789+/0123456789+/01U=",
+        ),
+        (
+            b"\x80\x00\x00\x00\x00\x00\x00\x00\x00\x00\x00\x00\x00\x00\x00\x00\x00\x00\x00\x00",
+            b"gAAAAAAAAAAAAAAAAAAAAAAAAAA=",
+        ),
+        (
+            b"\x00\x00\x00\x00\x00\x00\x00\x00\x00\x00\x00\x00\x00\x00\x00\x00\x00\x00\x00\x01",
+            b"AAAAAAAAAAAAAAAAAAAAAAAAAAE=",
+        ),
+        (
+            b"\xa9\x99\x3e\x36\x47\x06\x81\x6a\xba\x3e\x25\x71\x78\x50\xc2\x6c\x9c\xd0\xd8\x9d",
+            b"qZk+NkcGgWq6PiVxeFDCbJzQ2J0=",
+        ),
+        (
+            b"\xda\x39\xa3\xee\x5e\x6b\x4b\x0d\x32\x55\xbf\xef\x95\x60\x18\x90\xaf\xd8\x07\x09",
+            b"2jmj7l5rSw0yVb/vlWAYkK/YBwk=",
+        ),
+        (
+            b"\xaa\xaa\xaa\xaa\xaa\xaa\xaa\xaa\xaa\xaa\xaa\xaa\xaa\xaa\xaa\xaa\xaa\xaa\xaa\xaa",
+            b"qqqqqqqqqqqqqqqqqqqqqqqqqqo=",
+        ),
+    ];
 
     const MALFORMED: [&[u8; 28]; 20] = [
         b"qZk+NkcGgWq6PiVxeFDCbJzQ2J1=",
@@ -104,9 +89,9 @@ mod tests {
 
     #[test]
     fn writes_and_reads_the_vectors(rt: HostRuntime) {
-        for v in vectors() {
-            assert_eq!(rt; base64::encode(v.hash), v.text);
-            assert_eq!(rt; base64::decode(v.text), Ok(v.hash));
+        for (hash, text) in VECTORS {
+            assert_eq!(rt; base64::encode(*hash), *text);
+            assert_eq!(rt; base64::decode(*text), Ok(*hash));
         }
     }
 

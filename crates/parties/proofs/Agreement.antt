@@ -1,11 +1,12 @@
 -- The tests on verified signatures decide what they stand for.
-use Rattle.std.proofs.Common.{◌≡◌, ℕ, ◌+◌, ◌<◌, Bool, true, false, ◌&&◌, ◌||◌, List, length, get_or, drop, Decides, sym, refl, ap, ◌∙◌}
+use Rattle.std.proofs.Common.{◌≡◌, ℕ, Bool, ◌&&◌, List, length, Decides, sym, refl, ap}
 use Rattle.std.specs.Str.{bytes_eq}
 use Rattle.std.proofs.lemmas.Slice.Eq.{bytes_eq-Decides}
-use Rattle.std.proofs.lemmas.List.{at_drop_more}
-use Rattle.std.proofs.lemmas.Bool.Decides.{Decides-and, Decides-like, Decides-by_or, Decides-at}
+use Rattle.std.proofs.lemmas.Bool.{eq-eqb, ne_eqb, and_left}
+use Rattle.std.proofs.lemmas.Bool.Decides.{Decides-and, Decides-like, Decides-by_or, Decides-eqb, Decides-at}
+use Rattle.sha1_hmac.specs.Message.{digest}
 use Rattle.parties.specs.declared.verified_signatures.VerifiedSignature.{VerifiedSignature}
-use Rattle.parties.specs.Standing.{Agrees, OneAgrees, agrees, one_agrees}
+use Rattle.parties.specs.Standing.{Agrees, OneAgrees, OtherLengthsNeverStand, agrees, one_agrees, signature_stands}
 
 module _ (key text_digest tag : List ℕ) where
   agrees_decides : (s : VerifiedSignature) → Decides (agrees key text_digest tag s) (Agrees key text_digest tag s)
@@ -17,19 +18,15 @@ module _ (key text_digest tag : List ℕ) where
   one_agrees_decides : (list : List VerifiedSignature) → Decides (one_agrees key text_digest tag list) (OneAgrees key text_digest tag list)
   one_agrees_decides = Decides-by_or (agrees key text_digest tag) (Agrees key text_digest tag) (one_agrees key text_digest tag) agrees_decides refl (λ _ _. refl)
 
-  module _ (list : List VerifiedSignature) where
-    -- r is the answer to whether one of the list agrees, in both its forms
-    abbrev pub Answered : Bool → Type 0
-    Answered r = (r ≡ one_agrees key text_digest tag list) × Decides r (OneAgrees key text_digest tag list)
+module _ (list : List VerifiedSignature) where
+  pub other_lengths_never_stand : OtherLengthsNeverStand 20 (signature_stands list)
+  other_lengths_never_stand key text tag other = and_left _ _ (ne_eqb (length tag) 20 other)
 
-    pub answered : (r : Bool) → r ≡ one_agrees key text_digest tag list → Answered r
-    answered r e = (e, Decides-at r (one_agrees key text_digest tag list) e (one_agrees_decides list))
+  module _ (key text tag : List ℕ) where
+    pub twenty_bytes_stand_by_the_list : length tag ≡ 20 → one_agrees key (digest text) tag list ≡ signature_stands list key text tag
+    twenty_bytes_stand_by_the_list twenty = sym (ap (λ b. b && one_agrees key (digest text) tag list) (eq-eqb (length tag) 20 twenty))
 
-    module _ (i : ℕ) (so_far : one_agrees key text_digest tag (drop i list) ≡ one_agrees key text_digest tag list) where
-      pub this_one_agrees : (s : VerifiedSignature) → i < length list → agrees key text_digest tag (get_or list i s) ≡ true → Answered true
-      this_one_agrees s within e =
-          answered true (sym (sym so_far ∙ at_drop_more (one_agrees key text_digest tag) list i s within ∙ ap (λ b. b || one_agrees key text_digest tag (drop (i + 1) list)) e))
-
-      pub this_one_does_not : (s : VerifiedSignature) → i < length list → agrees key text_digest tag (get_or list i s) ≡ false → one_agrees key text_digest tag (drop (i + 1) list) ≡ one_agrees key text_digest tag list
-      this_one_does_not s within e =
-          sym (sym so_far ∙ at_drop_more (one_agrees key text_digest tag) list i s within ∙ ap (λ b. b || one_agrees key text_digest tag (drop (i + 1) list)) e)
+    -- an answer by the test is one by what it stands for
+    pub decides_standing : (r : Bool) → r ≡ signature_stands list key text tag → Decides r ((length tag ≡ 20) × OneAgrees key (digest text) tag list)
+    decides_standing r e =
+        Decides-at r (signature_stands list key text tag) e (Decides-and _ _ (Decides-eqb (length tag) 20) (one_agrees_decides key (digest text) tag list))

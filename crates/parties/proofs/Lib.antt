@@ -1,5 +1,4 @@
 pub mod Comparison
 pub mod Lengths
 pub mod Agreement
-pub mod Queues
 pub mod Targets

@@ -1,7 +1,5 @@
 -- Commands, and what becomes of a service that is given one.
-use Rattle.std.specs.Prelude.{◌≡◌, ℕ, ◌≤◌, Bool, true, false, List, length}
-use Rattle.parties.specs.declared.command.Performed.{Performed}
-use Rattle.parties.specs.declared.command.Performed.TheVariants.{Taken, NotTaken}
+use Rattle.std.specs.Prelude.{◌≡◌, ℕ, ◌≤◌, List, length}
 use Rattle.parties.specs.declared.command.CommandView.{CommandView}
 
 pub record Command : Type 0 where
@@ -24,14 +22,6 @@ pub record WellSized (c : Command) : Type 0 where
 -- The most commands that are counted, 2^64 − 1.
 abbrev pub limit : ℕ
 limit = 18446744073709551615
-
-abbrev pub is_taken : Performed → Bool
-is_taken Taken = true
-is_taken NotTaken = false
-
-abbrev pub verdict_of : Bool → Performed
-verdict_of true = Taken
-verdict_of false = NotTaken
 
 -- What a service holds after a command that it did not take: everything, as it was.
 abbrev pub Untouched : {S : Type 0} → S → S → Type 0

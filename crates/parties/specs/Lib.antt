@@ -4,5 +4,5 @@ pub mod Relays
 pub mod Waiting
 pub mod Outboxes
 pub mod Sendable
-pub mod Verdicts
 pub mod SetTargets
+pub mod ZeroFilled

@@ -1,6 +1,6 @@
 -- Which tags stand for a key and a text.
-use Rattle.std.specs.Prelude.{◌≡◌, ℕ, ◌<◌, Bool, false, ◌&&◌, ◌||◌, List, [], ◌∷◌, length, ◌==◌, ◌≢◌}
-use Rattle.std.specs.List.{HoldsAt}
+use Rattle.std.specs.Prelude.{◌≡◌, ℕ, ◌<◌, Bool, false, ◌&&◌, List, length, ◌==◌, ◌≢◌}
+use Rattle.std.specs.List.{HoldsAt, list_any}
 use Rattle.std.specs.Str.{bytes_eq}
 use Rattle.sha1_hmac.specs.Keyed.{hmac_of}
 use Rattle.sha1_hmac.specs.Message.{digest}
@@ -29,8 +29,7 @@ abbrev pub agrees : List ℕ → List ℕ → List ℕ → VerifiedSignature →
 agrees key text_digest tag s = (bytes_eq s.key_hash key && bytes_eq s.text_digest text_digest) && bytes_eq s.tag tag
 
 abbrev pub one_agrees : List ℕ → List ℕ → List ℕ → List VerifiedSignature → Bool
-one_agrees key text_digest tag [] = false
-one_agrees key text_digest tag (s ∷ ss) = agrees key text_digest tag s || one_agrees key text_digest tag ss
+one_agrees key text_digest tag list = list_any (agrees key text_digest tag) list
 
 -- The tag has twenty bytes, as every tag on the list, and one of the list agrees with it, the key and the text.
 abbrev pub signature_stands : List VerifiedSignature → List ℕ → List ℕ → List ℕ → Bool

@@ -25,12 +25,13 @@ impl<T: Copy> CommandLog<T> {
         self.done < u64::MAX
     }
 
-    pub(crate) fn add(&mut self, command: T)
+    // By reference: where a value with a model is passed by value and used again, the borrow checker makes no proof.
+    pub(crate) fn add(&mut self, command: &T)
         requires { self.old.done < limit }
         ensures counts { self.new.done ≡ self.old.done + 1 }
-        ensures keeps { self.new.last ≡ Some command }
+        ensures keeps { self.new.last ≡ Some command.now }
     {
         self.done += 1;
-        self.last = Some(command);
+        self.last = Some(*command);
     }
 }

@@ -6,7 +6,6 @@ pub mod command;
 mod command_log;
 pub mod hmac_verifier;
 pub mod outbox;
-mod queue;
 pub mod relay_panel;
 pub mod service;
 mod short_bytes;

@@ -1,10 +1,10 @@
-ghost use Rattle.std.specs.Prelude.{◌≡◌, ◌+◌, true, false, replicate, if◌then◌else◌, Some, None, MatchOption, nat_lt};
-ghost use Rattle.parties.specs.Commands.{command, is_taken, Untouched, limit};
+ghost use Rattle.std.specs.Prelude.{◌≡◌, ◌+◌, true, false, replicate, if◌then◌else◌, Some, None, MatchOption, nat_lt, is_ok};
+ghost use Rattle.std.proofs.lemmas.Bool.{and_parts, and_left, le-ltb};
+ghost use Rattle.parties.specs.Commands.{viewed, Untouched, limit};
 ghost use Rattle.parties.specs.Relays.{is_set_target, panel_verdict, panel_last, switched, Requested};
 ghost use Rattle.parties.specs.SetTargets.{target_is_well_sized};
-ghost use Rattle.parties.specs.Verdicts.{nothing_is_taken_past_the_limit, what_is_taken_passes_both};
 
-use crate::command::{CommandView, Performed};
+use crate::command::{CommandView, NotTaken};
 use crate::command_log::CommandLog;
 use crate::service::Service;
 
@@ -27,16 +27,15 @@ pub struct RelayPanel {
 }
 
 // The payload, where the command is a SetTarget for a relay and a state that there are.
-fn requested(name: &[u8], payload: &[u8]) -> Option<[u8; 2]>
-    ensures { MatchOption result (is_set_target name.now payload.now ≡ false) (λ t. (is_set_target name.now payload.now ≡ true) × Requested name.now payload.now t) }
+fn requested(command: CommandView<'_>) -> Option<[u8; 2]>
+    ensures { let c = viewed command.entry in MatchOption result (is_set_target c.name c.payload ≡ false) (λ t. (is_set_target c.name c.payload ≡ true) × Requested c.name c.payload t) }
 {
-    if payload.len() != 2 {
+    let &[relay, state] = command.payload else {
         return None;
-    }
-    let target = [payload[0], payload[1]];
+    };
     // `&` has no branch, so that there is one way to each answer.
-    if (name == SET_TARGET) & (target[0] < RELAYS) & (target[1] < 2) {
-        Some(target)
+    if (command.name == SET_TARGET) & (relay < RELAYS) & (state < 2) {
+        Some([relay, state])
     } else {
         None
     }
@@ -70,29 +69,27 @@ impl Service for RelayPanel {
 
     ghost verdict = { panel_verdict };
 
-    ghost nothing_is_taken_at_the_limit = { λ p _ full. nothing_is_taken_past_the_limit p.log.done _ full };
+    ghost nothing_is_taken_at_the_limit = { λ p _ full. and_left (nat_lt p.log.done limit) _ (le-ltb p.log.done limit full) };
 
-    ghost what_is_taken_is_well_sized = { λ s c taken. target_is_well_sized c (what_is_taken_passes_both (nat_lt s.log.done limit) (is_set_target c.name c.payload) taken).1 };
+    ghost what_is_taken_is_well_sized = { λ p c taken. target_is_well_sized c (and_parts (nat_lt p.log.done limit) (is_set_target c.name c.payload) taken).1 };
 
-    fn perform(&mut self, name: &[u8], payload: &[u8], clock: u64) -> Performed
-        ensures answers_the_verdict { result ≡ panel_verdict self.old (command name.now payload.now clock) }
-        ensures counts_what_is_taken { self.new.log.done ≡ (if is_taken result then self.old.log.done + 1 else self.old.log.done) }
-        ensures remembers_what_is_taken { panel_last self.new ≡ (if is_taken result then Some (command name.now payload.now clock) else panel_last self.old) }
-        ensures untouched_by_what_is_not { is_taken result ≡ false → Untouched self.old self.new }
-        ensures sets_the_relay_and_no_other { self.new.relays ≡ (if is_taken result then switched self.old.relays payload.now else self.old.relays) }
+    fn perform(&mut self, command: CommandView<'_>) -> Result<(), NotTaken>
+        ensures answers_the_verdict { is_ok result ≡ panel_verdict self.old (viewed command.entry) }
+        ensures counts_what_is_taken { self.new.log.done ≡ (if is_ok result then self.old.log.done + 1 else self.old.log.done) }
+        ensures remembers_what_is_taken { panel_last self.new ≡ (if is_ok result then Some (viewed command.entry) else panel_last self.old) }
+        ensures untouched_by_what_is_not { is_ok result ≡ false → Untouched self.old self.new }
+        ensures sets_the_relay_and_no_other { self.new.relays ≡ (if is_ok result then switched self.old.relays command.entry.payload.now else self.old.relays) }
     {
-        let Some(target) = requested(name, payload) else {
-            return Performed::NotTaken;
-        };
+        let target = requested(command).ok_or(NotTaken)?;
         if !self.log.has_room() {
-            return Performed::NotTaken;
+            return Err(NotTaken);
         }
         self.relays[usize::from(target[0])] = target[1] == 1;
-        self.log.add(SetTarget {
+        self.log.add(&SetTarget {
             payload: target,
-            clock,
+            clock: command.clock,
         });
-        Performed::Taken
+        Ok(())
     }
 
     fn commands_done(&self) -> u64 {
@@ -100,13 +97,10 @@ impl Service for RelayPanel {
     }
 
     fn last_command(&self) -> Option<CommandView<'_>> {
-        match &self.log.last {
-            None => None,
-            Some(t) => Some(CommandView {
-                name: SET_TARGET,
-                payload: &t.payload,
-                clock: t.clock,
-            }),
-        }
+        self.log.last.as_ref().map(|t| CommandView {
+            name: SET_TARGET,
+            payload: &t.payload,
+            clock: t.clock,
+        })
     }
 }

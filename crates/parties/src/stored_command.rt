@@ -1,64 +1,47 @@
-ghost use Rattle.std.specs.Prelude.{◌≡◌, ◌≤◌, true, false, [], length, MatchOption};
-ghost use Rattle.parties.specs.Commands.{command, viewed};
-ghost use Rattle.parties.specs.Waiting.{stored, is_sendable};
+ghost use Rattle.std.specs.Prelude.{◌≡◌, ◌≤◌, true, false, length, MatchOption};
+ghost use Rattle.parties.specs.Commands.{viewed};
+ghost use Rattle.parties.specs.Waiting.{is_sendable};
 
 use crate::command::CommandView;
 use crate::short_bytes::ShortBytes;
-
-// The most bytes that a stored name or payload has.
-const ROOM: usize = 16;
+use std::marker::Model;
 
 // A command kept in place.
-#[derive(Clone, Copy)]
+#[derive(Clone, Copy, Default)]
 pub struct StoredCommand {
     name: ShortBytes,
     payload: ShortBytes,
     clock: u64,
 }
 
-fn sendable(name: &[u8], payload: &[u8]) -> bool
-    ensures test { result ≡ is_sendable name.now payload.now }
-    ensures fits { result ≡ true → (length name.now ≤ 16) × (length payload.now ≤ 16) }
-{
-    // `&` has no branch, so that there is one way to the answer.
-    (name.len() >= 1) & (name.len() <= ROOM) & (payload.len() <= ROOM)
+impl Model for StoredCommand {
+    ghost use Rattle.parties.specs.Commands.{Command};
+
+    ghost Value = { Command };
+
+    ghost view = { λ s. record { name = s.name; payload = s.payload; clock = s.clock } };
+
+    ghost inverse = { λ c. record { name = c.name; payload = c.payload; clock = c.clock } };
 }
 
 impl StoredCommand {
     // The command, where it has a name, and there is room for both its name and its payload.
-    pub fn new(name: &[u8], payload: &[u8], clock: u64) -> Option<StoredCommand>
-        ensures stores_what_fits { MatchOption result (is_sendable name.now payload.now ≡ false) (λ s. (is_sendable name.now payload.now ≡ true) × (stored s ≡ command name.now payload.now clock)) }
+    pub fn new(command: CommandView<'_>) -> Option<StoredCommand>
+        ensures stores_what_fits { let c = viewed command.entry in MatchOption result (is_sendable c.name c.payload ≡ false) (λ s. (is_sendable c.name c.payload ≡ true) × (s ≡ c)) }
     {
-        if !sendable(name, payload) {
+        if command.name.is_empty() {
             return None;
         }
-        let name = ShortBytes::copied(name);
-        let payload = ShortBytes::copied(payload);
         Some(StoredCommand {
-            name,
-            payload,
-            clock,
+            name: ShortBytes::copied(command.name)?,
+            payload: ShortBytes::copied(command.payload)?,
+            clock: command.clock,
         })
-    }
-
-    // No command: what an empty place holds.
-    pub(crate) fn blank() -> StoredCommand
-        ensures { stored result ≡ command [] [] 0 }
-    {
-        let none = ShortBytes {
-            bytes: [0; 16],
-            len: 0,
-        };
-        StoredCommand {
-            name: none,
-            payload: none,
-            clock: 0,
-        }
     }
 
     // The command, as it is lent to a reader.
     pub fn view(&self) -> CommandView<'_>
-        ensures shows_the_command { viewed result ≡ stored self.now }
+        ensures shows_the_command { viewed result ≡ self.now }
     {
         CommandView {
             name: self.name.as_slice(),

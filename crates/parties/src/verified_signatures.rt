@@ -22,42 +22,14 @@ pub struct VerifiedSignatures<'a> {
     pub list: &'a [VerifiedSignature],
 }
 
-fn agree(s: &VerifiedSignature, key: &[u8; 20], text_digest: &[u8; 20], tag: &[u8]) -> bool
-    ensures { result ≡ agrees key.now text_digest.now tag.now s.now }
-{
-    same_in_constant_time(&s.key_hash, key)
-        & same_in_constant_time(&s.text_digest, text_digest)
-        & same_in_constant_time(&s.tag, tag)
-}
-
-fn one_agrees(
-    list: &[VerifiedSignature],
-    key: &[u8; 20],
-    text_digest: &[u8; 20],
-    tag: &[u8],
-) -> bool
-    ensures test { result ≡ one_agrees key.now text_digest.now tag.now list.now }
-    ensures decides { Decides result (OneAgrees key.now text_digest.now tag.now list.now) }
-{
-    for s in list {
-        if agree(s, key, text_digest, tag) {
-            return true;
-        }
+impl VerifiedSignature {
+    fn agrees(&self, key: &[u8; 20], text_digest: &[u8; 20], tag: &[u8; 20]) -> bool
+        ensures { result ≡ agrees key.now text_digest.now tag.now self.now }
+    {
+        same_in_constant_time(&self.key_hash, key)
+            & same_in_constant_time(&self.text_digest, text_digest)
+            & same_in_constant_time(&self.tag, tag)
     }
-    false
-}
-
-fn one_stands(
-    list: &[VerifiedSignature],
-    key: &[u8; 20],
-    text_digest: &[u8; 20],
-    tag: &[u8],
-) -> bool
-    ensures test { result ≡ (length tag.now == 20 && one_agrees key.now text_digest.now tag.now list.now) }
-    ensures decides { Decides result ((length tag.now ≡ 20) × OneAgrees key.now text_digest.now tag.now list.now) }
-    ensures other_lengths_never_stand { OtherLengthsNeverStand 20 (signature_stands list.now) }
-{
-    (tag.len() == 20) & one_agrees(list, key, text_digest, tag)
 }
 
 impl Verifier for VerifiedSignatures<'_> {
@@ -81,6 +53,12 @@ impl Verifier for VerifiedSignatures<'_> {
         ensures other_lengths_never_stand { OtherLengthsNeverStand 20 (signature_stands self.now.list.now) }
         ensures accepts_what_one_agrees_with_in_all_three_parts { Decides result ((length tag.now ≡ 20) × OneAgrees key.now (digest text.now) tag.now self.now.list.now) }
     {
-        one_stands(self.list, key, &sha1(text), tag)
+        let Some(tag) = tag.as_array() else {
+            return false;
+        };
+        let text_digest = sha1(text);
+        self.list
+            .iter()
+            .any(|signature| signature.agrees(key, &text_digest, tag))
     }
 }

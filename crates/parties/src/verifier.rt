@@ -11,6 +11,7 @@ pub trait Verifier {
     // Whether a tag stands for a key and a text, in this order: key, text, tag.
     ghost stands: { Self → List ℕ → List ℕ → List ℕ → Bool };
 
+    // The clauses here and above name the tag length as `width`, and this call is what ties the constant to it.
     fn tag_width() -> usize
         ensures is_the_width { result ≡ width }
         ensures has_1_to_20_bytes { (1 ≤ width) × (width ≤ 20) };

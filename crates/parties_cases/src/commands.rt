@@ -1,46 +1,48 @@
 // Statements to the relay panel and to the outbox.
 use crate::words;
 use anyhow::anyhow;
-use parties::command::{CommandView, Performed};
+use hexadecimal::Digits;
+use parties::command::{CommandView, NotTaken};
 use parties::outbox::Outbox;
 use parties::relay_panel::RelayPanel;
 use parties::service::Service;
+use parties::stored_command::StoredCommand;
 use std::alloc::Global;
 use std::fmt;
 
 // Bytes as hexadecimal digits, `-` for none.
 #[derive(Drop)]
-struct Digits<'a>(&'a [u8]);
+struct ShownBytes<'a>(&'a [u8]);
 
-impl fmt::Display for Digits<'_> {
+impl fmt::Display for ShownBytes<'_> {
     fn fmt<W: fmt::Write>(&self, f: &mut fmt::Formatter<W>) -> fmt::Result {
         if self.0.is_empty() {
             return write!(f, "-");
         }
-        for b in self.0 {
-            write!(f, "{b:02x}")?;
-        }
-        Ok(())
+        let digits = Digits { bytes: self.0 };
+        write!(f, "{digits}")
     }
 }
 
-fn shown(heap: Global, command: CommandView) -> anyhow::Result<String> {
-    let name = Digits(command.name);
-    let payload = Digits(command.payload);
-    let clock = command.clock;
-    Ok(format!(in heap; "{name} {payload} {clock}")?)
-}
+// A command, if there is one.
+#[derive(Drop)]
+struct Shown<'a>(Option<CommandView<'a>>);
 
-fn shown_if_any(heap: Global, command: Option<CommandView>) -> anyhow::Result<String> {
-    match command {
-        None => Ok(format!(in heap; "none")?),
-        Some(command) => shown(heap, command),
+impl fmt::Display for Shown<'_> {
+    fn fmt<W: fmt::Write>(&self, f: &mut fmt::Formatter<W>) -> fmt::Result {
+        let Some(command) = &self.0 else {
+            return write!(f, "none");
+        };
+        let name = ShownBytes(command.name);
+        let payload = ShownBytes(command.payload);
+        let clock = command.clock;
+        write!(f, "{name} {payload} {clock}")
     }
 }
 
 fn state<S: Service>(heap: Global, service: &S) -> anyhow::Result<String> {
     let done = service.commands_done();
-    let last = shown_if_any(heap, service.last_command())?;
+    let last = Shown(service.last_command());
     Ok(format!(in heap; "done {done}, last {last}")?)
 }
 
@@ -48,20 +50,24 @@ fn perform<S: Service>(heap: Global, service: &mut S, words: &str) -> anyhow::Re
     let (name, rest) = words::first(words);
     let (payload, clock) = words::first(rest);
     let payload = words::bytes(heap, payload)?;
-    let clock = clock.parse::<u64>()?;
-    let answer = match service.perform(words::name(name), &payload, clock) {
-        Performed::Taken => "taken",
-        Performed::NotTaken => "not taken",
+    let command = CommandView {
+        name: words::name(name),
+        payload: &payload,
+        clock: clock.parse()?,
+    };
+    let answer = match service.perform(command) {
+        Ok(()) => "taken",
+        Err(NotTaken) => "not taken",
     };
     let state = state(heap, service)?;
     Ok(format!(in heap; "{answer}, {state}")?)
 }
 
 fn lit(heap: Global, relays: [bool; 8]) -> anyhow::Result<String> {
-    let mut digits = String::new(heap);
-    for on in relays.iter() {
-        digits.push(if *on { '1' } else { '0' })?;
-    }
+    let digits = relays
+        .iter()
+        .map(|on| if *on { '1' } else { '0' })
+        .collect(heap)?;
     Ok(digits)
 }
 
@@ -83,13 +89,6 @@ pub(crate) fn panel_answer(
     }
 }
 
-fn collected(heap: Global, outbox: &mut Outbox) -> anyhow::Result<String> {
-    match outbox.collect() {
-        None => Ok(format!(in heap; "none")?),
-        Some(command) => shown(heap, command.view()),
-    }
-}
-
 pub(crate) fn outbox_answer(
     heap: Global,
     outbox: &mut Outbox,
@@ -105,7 +104,11 @@ pub(crate) fn outbox_answer(
             let count = outbox.waiting_count();
             Ok(format!(in heap; "{count}")?)
         }
-        "collect" => collected(heap, outbox),
+        "collect" => {
+            let collected = outbox.collect();
+            let command = Shown(collected.as_ref().map(StoredCommand::view));
+            Ok(format!(in heap; "{command}")?)
+        }
         "state" => state(heap, outbox),
         "perform" => perform(heap, outbox, rest),
         _ => Err(anyhow!("an unknown statement to the outbox")),

@@ -1,3 +1,2 @@
-pub mod Parts
 pub mod Applying
-pub mod Whole
+pub mod Cuts

@@ -14,6 +14,10 @@ pub eight_bytes_are_big_endian : (n : ℕ) → (n / 72057594037927936 % 256) ∷
 unfolding big_endian
 eight_bytes_are_big_endian n = simp div-div-eq-div-mul
 
+pub four_bytes_are_big_endian : (n : ℕ) → (n / 16777216 % 256) ∷ (n / 65536 % 256) ∷ (n / 256 % 256) ∷ (n % 256) ∷ [] ≡ big_endian 4 n
+unfolding big_endian
+four_bytes_are_big_endian n = simp div-div-eq-div-mul
+
 pub length-big_endian : (count n : ℕ) → length (big_endian count n) ≡ count
 unfolding big_endian
 length-big_endian zero n = refl

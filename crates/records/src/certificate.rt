@@ -5,7 +5,7 @@ ghost use Rattle.records.specs.Equality.{same_certificate};
 ghost use Rattle.records.specs.Inverse.{WellFormedScope, CertificatesInverse};
 ghost use Rattle.records.specs.Equal.{same_certificate_decides};
 
-use crate::bytes::{hash_at, put};
+use crate::bytes::array_at;
 use crate::types::{Certificate, Scope};
 use refusal::Refusal;
 use tables::Record;
@@ -18,6 +18,8 @@ const DEVICE: usize = 40;
 
 const SCOPE: usize = 60;
 
+const HASH: usize = 20;
+
 const LENGTH: usize = 126;
 
 impl Certificate {
@@ -29,13 +31,12 @@ impl Certificate {
         if bytes.len() != LENGTH {
             return Err(Refusal::Malformed);
         }
-        let (_, fields) = bytes.split_at(SCOPE);
-        let scope = Scope::read(fields)?;
+        let (_, scope) = bytes.split_at(SCOPE);
         Ok(Certificate {
-            issuer: hash_at(bytes, ISSUER),
-            subject: hash_at(bytes, SUBJECT),
-            device: hash_at(bytes, DEVICE),
-            scope,
+            issuer: array_at(bytes, ISSUER),
+            subject: array_at(bytes, SUBJECT),
+            device: array_at(bytes, DEVICE),
+            scope: Scope::read(scope)?,
         })
     }
 
@@ -45,10 +46,13 @@ impl Certificate {
         ensures reads_back { WellFormedScope self.now.scope → certificate_in result ≡ Ok self.now }
     {
         let mut out = [0; LENGTH];
-        let at = put(&mut out, ISSUER, &self.issuer);
-        let at = put(&mut out, at, &self.subject);
-        let at = put(&mut out, at, &self.device);
-        put(&mut out, at, &self.scope.write());
+        let (issuer, rest) = out.split_at_mut(HASH);
+        let (subject, rest) = rest.split_at_mut(HASH);
+        let (device, scope) = rest.split_at_mut(HASH);
+        issuer.copy_from_slice(&self.issuer);
+        subject.copy_from_slice(&self.subject);
+        device.copy_from_slice(&self.device);
+        scope.copy_from_slice(&self.scope.write());
         out
     }
 }
@@ -67,9 +71,7 @@ impl Record for Certificate {
         ensures same { result ≡ same_certificate self.now sought.now }
         ensures yes_exactly_where_all_bytes_are_equal { Decides result (certificate_bytes self.now ≡ certificate_bytes sought.now) }
     {
-        self.issuer.has_key(&sought.issuer)
-            & self.subject.has_key(&sought.subject)
-            & self.device.has_key(&sought.device)
-            & self.scope.is_same(&sought.scope)
+        // Records that differ mostly differ in their windows.
+        self.scope.same_window(&sought.scope) & (self == sought)
     }
 }

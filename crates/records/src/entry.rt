@@ -5,7 +5,7 @@ ghost use Rattle.records.specs.Equality.{same_entry};
 ghost use Rattle.records.specs.Inverse.{WellFormedScope, EntriesInverse};
 ghost use Rattle.records.specs.Equal.{same_entry_decides};
 
-use crate::bytes::{hash_at, put};
+use crate::bytes::array_at;
 use crate::types::{Entry, Scope};
 use refusal::Refusal;
 use tables::Record;
@@ -25,10 +25,11 @@ impl Entry {
         if bytes.len() != LENGTH {
             return Err(Refusal::Malformed);
         }
-        let (_, fields) = bytes.split_at(SCOPE);
-        let scope = Scope::read(fields)?;
-        let subject = hash_at(bytes, SUBJECT);
-        Ok(Entry { subject, scope })
+        let (_, scope) = bytes.split_at(SCOPE);
+        Ok(Entry {
+            subject: array_at(bytes, SUBJECT),
+            scope: Scope::read(scope)?,
+        })
     }
 
     // Its bytes, whatever the fields hold.
@@ -37,8 +38,9 @@ impl Entry {
         ensures reads_back { WellFormedScope self.now.scope → entry_in result ≡ Ok self.now }
     {
         let mut out = [0; LENGTH];
-        let at = put(&mut out, SUBJECT, &self.subject);
-        put(&mut out, at, &self.scope.write());
+        let (subject, scope) = out.split_at_mut(SCOPE);
+        subject.copy_from_slice(&self.subject);
+        scope.copy_from_slice(&self.scope.write());
         out
     }
 }
@@ -57,6 +59,7 @@ impl Record for Entry {
         ensures same { result ≡ same_entry self.now sought.now }
         ensures yes_exactly_where_all_bytes_are_equal { Decides result (entry_bytes self.now ≡ entry_bytes sought.now) }
     {
-        self.subject.has_key(&sought.subject) & self.scope.is_same(&sought.scope)
+        // Records that differ mostly differ in their windows.
+        self.scope.same_window(&sought.scope) & (self == sought)
     }
 }

@@ -1,15 +1,15 @@
 // The part that entries and certificates share: 66 bytes.
-ghost use Rattle.std.specs.Prelude.{◌≡◌, false, ◌&&◌, leb, length, drop, Decides, nat_le};
+ghost use Rattle.std.specs.Prelude.{◌≡◌, false, ◌&&◌, leb, length, Decides, if◌then◌else◌, Some, None, ◌==◌, nat_le, slice_index};
 ghost use Rattle.std.specs.Result.{result_unwrap_or};
 ghost use Rattle.std.specs.Str.{bytes_eq};
 ghost use Rattle.permission.specs.Names.{IsName};
 ghost use Rattle.permission.specs.Reading.{covering};
 ghost use Rattle.records.specs.Records.{term_bytes, filling, scope_bytes, scope_at, sound_scope, scope_in};
-ghost use Rattle.records.specs.Equality.{same_scope};
+ghost use Rattle.records.specs.Equality.{same_window};
 ghost use Rattle.records.specs.Inverse.{WindowFits, ScopeFits};
 ghost use Rattle.records.specs.Applicability.{applicable, Applicable, TestDecidesForNames};
 
-use crate::bytes::{all_zero, number_at, number_bytes, put};
+use crate::bytes::{all_zero, array_at};
 use crate::types::Scope;
 use refusal::Refusal;
 
@@ -28,40 +28,30 @@ const LENGTH: usize = 66;
 
 const TERM_ROOM: u8 = 48;
 
-fn term_at(bytes: &[u8]) -> [u8; 48]
-    requires { length bytes.now ≡ 66 }
-    ensures { result ≡ drop 18 bytes.now }
+// The flag that a byte stands for.
+fn flag_in(byte: u8) -> Option<bool>
+    ensures { result ≡ (if nat_le byte 1 then Some (byte == 1) else None) }
 {
-    let mut term = [0; 48];
-    term.copy_from_slice(&bytes[TERM..LENGTH]);
-    term
-}
-
-fn is_flag(byte: u8) -> bool
-    ensures { result ≡ nat_le byte 1 }
-{
-    byte <= 1
-}
-
-fn same_term(a: &[u8; 48], b: &[u8; 48]) -> bool
-    ensures { result ≡ bytes_eq a.now b.now }
-{
-    *a == *b
+    match byte {
+        0 => Some(false),
+        1 => Some(true),
+        _ => None,
+    }
 }
 
 impl Scope {
-    // The fields as they stand, sound or not.
-    fn fields(bytes: &[u8]) -> Scope
+    // The fields as they stand, sound or not; none where the flag is neither 0 nor 1.
+    fn fields(bytes: &[u8]) -> Option<Scope>
         requires { length bytes.now ≡ 66 }
-        ensures { result ≡ scope_at bytes.now }
+        ensures { result ≡ (if nat_le (slice_index bytes.now 0) 1 then Some (scope_at bytes.now) else None) }
     {
-        Scope {
-            delegate: bytes[FLAG] == 1,
-            not_before: number_at(bytes, NOT_BEFORE),
-            not_after: number_at(bytes, NOT_AFTER),
+        Some(Scope {
+            delegate: flag_in(bytes[FLAG])?,
+            not_before: u64::from_be_bytes(array_at(bytes, NOT_BEFORE)),
+            not_after: u64::from_be_bytes(array_at(bytes, NOT_AFTER)),
             term_length: bytes[TERM_LENGTH],
-            term: term_at(bytes),
-        }
+            term: array_at(bytes, TERM),
+        })
     }
 
     pub(crate) fn read(bytes: &[u8]) -> Result<Scope, Refusal>
@@ -70,12 +60,12 @@ impl Scope {
         if bytes.len() != LENGTH {
             return Err(Refusal::Malformed);
         }
-        let scope = Scope::fields(bytes);
-        let sound = is_flag(bytes[FLAG]) & scope.is_sound();
-        if !sound {
-            return Err(Refusal::Malformed);
+        let scope = Scope::fields(bytes).ok_or(Refusal::Malformed)?;
+        if scope.is_sound() {
+            Ok(scope)
+        } else {
+            Err(Refusal::Malformed)
         }
-        Ok(scope)
     }
 
     pub(crate) fn write(&self) -> [u8; 66]
@@ -83,11 +73,15 @@ impl Scope {
         ensures fits { ScopeFits self.now }
     {
         let mut out = [0; LENGTH];
-        let at = put(&mut out, FLAG, &[u8::from(self.delegate)]);
-        let at = put(&mut out, at, &number_bytes(self.not_before));
-        let at = put(&mut out, at, &number_bytes(self.not_after));
-        let at = put(&mut out, at, &[self.term_length]);
-        put(&mut out, at, &self.term);
+        let (flag, rest) = out.split_at_mut(NOT_BEFORE);
+        let (not_before, rest) = rest.split_at_mut(NOT_AFTER - NOT_BEFORE);
+        let (not_after, rest) = rest.split_at_mut(TERM_LENGTH - NOT_AFTER);
+        let (term_length, term) = rest.split_at_mut(TERM - TERM_LENGTH);
+        flag.copy_from_slice(&[u8::from(self.delegate)]);
+        not_before.copy_from_slice(&self.not_before.to_be_bytes());
+        not_after.copy_from_slice(&self.not_after.to_be_bytes());
+        term_length.copy_from_slice(&self.term_length.to_be_bytes());
+        term.copy_from_slice(&self.term);
         out
     }
 
@@ -137,14 +131,11 @@ impl Scope {
         self.is_current(clock) && self.covers(name)
     }
 
-    pub(crate) fn is_same(&self, other: &Scope) -> bool
-        ensures same { result ≡ same_scope self.now other.now }
-        ensures windows_fit { WindowFits self.now × WindowFits other.now }
+    // Whether both have one window, each end of which fits eight bytes.
+    pub(crate) fn same_window(&self, other: &Scope) -> bool
+        ensures same { result ≡ same_window self.now other.now }
+        ensures fits { WindowFits self.now × WindowFits other.now }
     {
-        (self.delegate == other.delegate)
-            & (self.not_before == other.not_before)
-            & (self.not_after == other.not_after)
-            & (self.term_length == other.term_length)
-            & same_term(&self.term, &other.term)
+        (self.not_before == other.not_before) & (self.not_after == other.not_after)
     }
 }

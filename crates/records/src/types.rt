@@ -2,7 +2,7 @@
 
 // What an entry or a certificate allows: whether it may be passed on, when it applies, and to which names.
 // The term is the first `term_length` bytes of `term`; zeros fill the rest.
-#[derive(Clone, Copy)]
+#[derive(Clone, Copy, PartialEq, Eq)]
 pub struct Scope {
     pub delegate: bool,
     pub not_before: u64,
@@ -12,14 +12,14 @@ pub struct Scope {
 }
 
 // What an owner allows the subject, by its key hash.
-#[derive(Clone, Copy)]
+#[derive(Clone, Copy, PartialEq, Eq)]
 pub struct Entry {
     pub subject: [u8; 20],
     pub scope: Scope,
 }
 
 // What the issuer allows the subject on one device, each by its hash.
-#[derive(Clone, Copy)]
+#[derive(Clone, Copy, PartialEq, Eq)]
 pub struct Certificate {
     pub issuer: [u8; 20],
     pub subject: [u8; 20],

@@ -1,8 +1,11 @@
 // Why a text or a request is refused: one enum for every layer.
 #![tactic(auto)]
 
-ghost use Rattle.std.specs.Prelude.{◌≡◌};
+ghost use Rattle.std.specs.Prelude.{◌≡◌, ◌++◌, Some, codes, decimal};
 ghost use Rattle.refusal.specs.Report.{report};
+
+use std::error::Error;
+use std::fmt;
 
 // Each case is one refusal that a caller can be told of, in the order in which a request is checked.
 #[derive(Clone, Copy, PartialEq, Eq, Debug)]
@@ -80,3 +83,15 @@ impl Refusal {
         }
     }
 }
+
+// The stage and the code.
+impl fmt::Display for Refusal {
+    ghost output = { λ why. Some (decimal (report why).stage ++ (codes " " ++ decimal (report why).code)) };
+
+    fn fmt<W: fmt::Write>(&self, f: &mut fmt::Formatter<W>) -> fmt::Result {
+        let (stage, code) = (self.stage(), self.code());
+        write!(f, "{stage} {code}")
+    }
+}
+
+impl Error for Refusal {}

@@ -1,7 +1,7 @@
 -- What is answered to a statement, and the line that says so.
-use Rattle.std.specs.Prelude.{ℕ, ◌-◌, Bool, true, false, cond, List, [], ◌∷◌, ◌++◌, length, replicate, Some, None, Ok, Err, codes, decimal, Option, Result, ◌==◌, nat_le}
+use Rattle.std.specs.Prelude.{ℕ, Bool, true, false, cond, List, [], ◌∷◌, ◌++◌, length, Some, None, Ok, Err, codes, decimal, Option, Result, ◌==◌}
 use Rattle.refusal.specs.declared.Refusal.{Refusal}
-use Rattle.sha1_hmac.specs.Keyed.{hmac_of}
+use Rattle.sha1_hmac.specs.Keyed.{hmac_of, key_from}
 use Rattle.sha1_hmac.specs.Message.{digest}
 use Rattle.permission.specs.Reading.{covering}
 use Rattle.keyhash.specs.Element.{element, reading_element}
@@ -38,20 +38,13 @@ abbrev pub sha1_reply : Option (List ℕ) → Reply
 sha1_reply None = Mistaken NoBytes
 sha1_reply (Some bytes) = Digest (digest bytes)
 
--- a key of at most 20 bytes, filled up with zeros
-abbrev pub filled : List ℕ → List ℕ
-filled key = key ++ replicate (20 - length key) 0
-
-abbrev pub key_of : List ℕ → Option (List ℕ)
-key_of key = cond (nat_le (length key) 20) (Some (filled key)) None
-
 abbrev pub tag_reply : Option (List ℕ) → List ℕ → Reply
 tag_reply None bytes = Mistaken NoKeyAndBytes
 tag_reply (Some key) bytes = Digest (hmac_of key bytes)
 
 abbrev pub keyed_reply : List ℕ → Option (List ℕ) → Reply
 keyed_reply key None = Mistaken NoKeyAndBytes
-keyed_reply key (Some bytes) = tag_reply (key_of key) bytes
+keyed_reply key (Some bytes) = tag_reply (key_from key) bytes
 
 abbrev pub hmac_reply : Option (List ℕ) → Option (List ℕ) → Reply
 hmac_reply None bytes = Mistaken NoKeyAndBytes
@@ -76,10 +69,6 @@ reason NoBytes = codes "not hexadecimal digits, expected: sha1 HEX"
 reason NoKeyAndBytes = codes "not a key of at most 20 bytes and hexadecimal digits, expected: hmac KEYHEX HEX"
 reason NoTermAndName = codes "not hexadecimal digits and a name, expected: covers TERMHEX NAME"
 
--- where a mistake stands
-abbrev pub place : ℕ → List ℕ
-place number = codes "error " ++ (decimal number ++ codes ": ")
-
 -- yes, no or malformed
 abbrev pub verdict : Result Bool Refusal → List ℕ
 verdict (Ok true) = codes "yes"
@@ -93,4 +82,4 @@ printed number Malformed = codes "malformed"
 printed number (Text value) = codes "text " ++ value
 printed number (Covers answer) = verdict answer
 printed number (Digest value) = hex_text value
-printed number (Mistaken mistake) = place number ++ reason mistake
+printed number (Mistaken mistake) = codes "error " ++ (decimal number ++ (codes ": " ++ reason mistake))

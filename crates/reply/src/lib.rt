@@ -1,17 +1,19 @@
 // What is answered to a statement, and the line that says so.
 #![tactic(auto)]
 
-ghost use Rattle.std.specs.Prelude.{◌≡◌, List, [], ◌∷◌, ◌++◌, IfOk, codes};
+ghost use Rattle.std.specs.Prelude.{◌≡◌, List, [], ◌∷◌, ◌++◌, Some, IfOk, codes};
 ghost use Rattle.hexadecimal.specs.Hex.{hex_text, hex_bytes, bytes_named};
-ghost use Rattle.reply.specs.Replies.{hash_reply, text_reply, covers_reply, sha1_reply, key_of, hmac_reply, reply_to, reason, place, verdict, printed};
+ghost use Rattle.reply.specs.Replies.{hash_reply, text_reply, covers_reply, sha1_reply, hmac_reply, reply_to, reason, printed};
 ghost use Rattle.statement.specs.Lines.{before, after};
 ghost use Rattle.statement.specs.Statements.{said};
 
+use hexadecimal::Digits;
 use keyhash::element;
 use refusal::Refusal;
 use statement::Statement;
 use statement::lines::split_once;
 use std::alloc::{AllocError, Global};
+use std::fmt;
 
 // What is wrong with a line that is no statement.
 #[derive(Clone, Copy, PartialEq, Eq, Debug)]
@@ -41,22 +43,22 @@ pub enum Reply {
     Mistaken(Mistake),
 }
 
-impl Mistake {
-    // The reason that is given.
-    fn reason(self) -> &'static [u8]
-        ensures reason_as_defined { result.now ≡ reason self }
-    {
-        match self {
+// The reason that is given.
+impl fmt::Display for Mistake {
+    ghost output = { λ mistake. Some (reason mistake) };
+
+    fn fmt<W: fmt::Write>(&self, f: &mut fmt::Formatter<W>) -> fmt::Result {
+        f.write_str(match self {
             Mistake::UnknownStatement =>
-                b"unknown statement, expected: hash TEXT, text HEX, covers TERMHEX NAME, sha1 HEX or hmac KEYHEX HEX",
-            Mistake::NoText => b"no text, expected: hash TEXT",
-            Mistake::NotFortyDigits => b"not 40 hexadecimal digits, expected: text HEX",
-            Mistake::NoBytes => b"not hexadecimal digits, expected: sha1 HEX",
+                "unknown statement, expected: hash TEXT, text HEX, covers TERMHEX NAME, sha1 HEX or hmac KEYHEX HEX",
+            Mistake::NoText => "no text, expected: hash TEXT",
+            Mistake::NotFortyDigits => "not 40 hexadecimal digits, expected: text HEX",
+            Mistake::NoBytes => "not hexadecimal digits, expected: sha1 HEX",
             Mistake::NoKeyAndBytes =>
-                b"not a key of at most 20 bytes and hexadecimal digits, expected: hmac KEYHEX HEX",
+                "not a key of at most 20 bytes and hexadecimal digits, expected: hmac KEYHEX HEX",
             Mistake::NoTermAndName =>
-                b"not hexadecimal digits and a name, expected: covers TERMHEX NAME",
-        }
+                "not hexadecimal digits and a name, expected: covers TERMHEX NAME",
+        })
     }
 }
 
@@ -80,12 +82,10 @@ fn write(heap: Global, hex: &[u8]) -> Result<Reply, AllocError>
     let Some(bytes) = hexadecimal::decode(heap, hex)? else {
         return Ok(Reply::Mistaken(Mistake::NotFortyDigits));
     };
-    if bytes.len() != 20 {
+    let Some(hash) = bytes.as_array::<20>() else {
         return Ok(Reply::Mistaken(Mistake::NotFortyDigits));
-    }
-    let mut hash = [0; 20];
-    hash.copy_from_slice(bytes.as_slice());
-    Ok(Reply::Text(element::write(hash)))
+    };
+    Ok(Reply::Text(element::write(*hash)))
 }
 
 // The answer to `covers TERMHEX NAME`.
@@ -112,19 +112,6 @@ fn digest_of(heap: Global, word: &[u8]) -> Result<Reply, AllocError>
     Ok(Reply::Digest(sha1_hmac::sha1(bytes.as_slice())))
 }
 
-// A key of at most 20 bytes, filled up with zeros.
-fn key_of(bytes: &[u8]) -> Option<[u8; 20]>
-    ensures { result ≡ key_of bytes.now }
-{
-    let count = bytes.len();
-    if count > 20 {
-        return None;
-    }
-    let mut key = [0; 20];
-    key[0..count].copy_from_slice(bytes);
-    Some(key)
-}
-
 // The answer to `hmac KEYHEX HEX`.
 fn tag_of(heap: Global, argument: &[u8]) -> Result<Reply, AllocError>
     ensures { IfOk result (λ x. x ≡ hmac_reply (bytes_named (before 32 argument.now)) (bytes_named (after 32 argument.now))) }
@@ -136,7 +123,7 @@ fn tag_of(heap: Global, argument: &[u8]) -> Result<Reply, AllocError>
     let Some(bytes) = hexadecimal::bytes_named(heap, second)? else {
         return Ok(Reply::Mistaken(Mistake::NoKeyAndBytes));
     };
-    let Some(key) = key_of(secret.as_slice()) else {
+    let Some(key) = sha1_hmac::key_from(secret.as_slice()) else {
         return Ok(Reply::Mistaken(Mistake::NoKeyAndBytes));
     };
     Ok(Reply::Digest(sha1_hmac::hmac(key, bytes.as_slice())))
@@ -157,65 +144,30 @@ pub fn evaluate(heap: Global, statement: Statement<'_>) -> Result<Option<Reply>,
     }
 }
 
-// A word, and what follows it.
-fn labelled(heap: Global, label: &[u8], rest: &[u8]) -> Result<Vec<u8>, AllocError>
-    ensures { IfOk result (λ v. v.items ≡ label.now ++ rest.now) }
-{
-    let mut out = Vec::new(heap);
-    out.extend_from_slice(label)?;
-    out.extend_from_slice(rest)?;
-    Ok(out)
-}
-
-// The line for a hash that was read.
-fn hash_line(heap: Global, hash: &[u8]) -> Result<Vec<u8>, AllocError>
-    ensures { IfOk result (λ v. v.items ≡ codes "hash " ++ hex_text hash.now) }
-{
-    let mut out = Vec::new(heap);
-    out.extend_from_slice(b"hash ")?;
-    hexadecimal::push(&mut out, hash)?;
-    Ok(out)
-}
-
-// The line for a digest or a tag.
-fn digest_line(heap: Global, value: &[u8]) -> Result<Vec<u8>, AllocError>
-    ensures { IfOk result (λ v. v.items ≡ hex_text value.now) }
-{
-    let mut out = Vec::new(heap);
-    hexadecimal::push(&mut out, value)?;
-    Ok(out)
-}
-
-// The line for what a term answers.
-fn verdict_line(heap: Global, answer: Result<bool, Refusal>) -> Result<Vec<u8>, AllocError>
-    ensures { IfOk result (λ v. v.items ≡ verdict answer) }
-{
-    match answer {
-        Ok(true) => labelled(heap, b"yes", &[]),
-        Ok(false) => labelled(heap, b"no", &[]),
-        Err(_) => labelled(heap, b"malformed", &[]),
-    }
-}
-
-// The line for a mistake on the line of a number.
-fn mistake_line(heap: Global, number: u64, mistake: Mistake) -> Result<Vec<u8>, AllocError>
-    ensures { IfOk result (λ v. v.items ≡ place number ++ reason mistake) }
-{
-    let mut out = format!(in heap; "error {number}: ")?.into_bytes();
-    out.extend_from_slice(mistake.reason())?;
-    Ok(out)
-}
-
 // The line that is printed for an answer, less its line feed.
 pub fn line(heap: Global, number: u64, reply: &Reply) -> Result<Vec<u8>, AllocError>
     ensures line_as_defined { IfOk result (λ v. v.items ≡ printed number reply.now) }
 {
     match reply {
-        Reply::Hash(hash) => hash_line(heap, hash),
-        Reply::Malformed => labelled(heap, b"malformed", &[]),
-        Reply::Text(text) => labelled(heap, b"text ", text),
-        Reply::Covers(answer) => verdict_line(heap, *answer),
-        Reply::Digest(value) => digest_line(heap, value),
-        Reply::Mistaken(mistake) => mistake_line(heap, number, *mistake),
+        Reply::Hash(hash) => {
+            let digits = Digits { bytes: hash };
+            Ok(format!(in heap; "hash {digits}")?.into_bytes())
+        }
+        Reply::Malformed => Vec::from_slice(heap, b"malformed"),
+        Reply::Text(text) => {
+            let mut line = Vec::from_slice(heap, b"text ")?;
+            line.extend_from_slice(text)?;
+            Ok(line)
+        }
+        Reply::Covers(Ok(true)) => Vec::from_slice(heap, b"yes"),
+        Reply::Covers(Ok(false)) => Vec::from_slice(heap, b"no"),
+        Reply::Covers(Err(_)) => Vec::from_slice(heap, b"malformed"),
+        Reply::Digest(value) => {
+            let digits = Digits { bytes: value };
+            Ok(format!(in heap; "{digits}")?.into_bytes())
+        }
+        Reply::Mistaken(mistake) => {
+            Ok(format!(in heap; "error {number}: {mistake}")?.into_bytes())
+        }
     }
 }

@@ -1,5 +1,5 @@
 -- The fields of an envelope are those of its signed text.
-use Rattle.std.proofs.Common.{◌≡◌, ℕ, zero, suc, ◌+◌, ◌≤◌, Bool, true, false, cond, List, [], ◌∷◌, take, drop, Some, None, Ok, Err, Option, Result, sym, refl, ap, ◌∙◌, arith}
+use Rattle.std.proofs.Common.{◌≡◌, ℕ, zero, suc, ◌+◌, ◌≤◌, Bool, true, false, cond, List, [], ◌∷◌, take, drop, Some, None, Ok, Err, Option, Result, MatchOption, sym, refl, ap, ◌∙◌, arith}
 use Rattle.std.specs.Int.Digits.{number_from_digits}
 use Rattle.std.proofs.lemmas.List.{take-take}
 use Rattle.std.proofs.lemmas.Bool.{cond-true, cond-false}
@@ -77,11 +77,13 @@ module _ (ws wp : ℕ) (b : List ℕ) where
   unsound_of why true e = let z : ◌≡◌ {A = ℕ} 0 1 = cc in absurd (omega arith)
   unsound_of why false e = refl
 
-  pub no_header : (why : Refusal) → Err why ≡ header_in ws wp b → Err Malformed ≡ received_in ws wp b
+  pub no_header : (why : Refusal) → Err why ≡ header_in ws wp b → Err why ≡ received_in ws wp b
   unfolding header_in reading_in
   no_header why e =
       let u = unsound_of why (sound_header ws wp b) (sym e) in
-      sym (ap (with_signed (signed_from b)) (cond-false (sound_header ws wp b) (asked_by ws wp b (action_of (action_code b))) (Err Malformed) u))
+      let h = e ∙ cond-false (sound_header ws wp b) (Ok (header_of b)) (Err Malformed) u in
+      let malformed : why ≡ Malformed = cc in
+      ap Err malformed ∙ sym (ap (with_signed (signed_from b)) (cond-false (sound_header ws wp b) (asked_by ws wp b (action_of (action_code b))) (Err Malformed) u))
 
   read_as : (h : Header) → Ok h ≡ header_in ws wp b → reading_in ws wp b ≡ asked_by ws wp b (action_of h.action_code)
   unfolding reading_in
@@ -89,23 +91,23 @@ module _ (ws wp : ℕ) (b : List ℕ) where
       let f = header_found h e in
       cond-true (sound_header ws wp b) (asked_by ws wp b (action_of (action_code b))) (Err Malformed) f.0 ∙ ap (λ z. asked_by ws wp b (action_of z.action_code)) f.1
 
-  pub no_action : (h : Header) → Ok h ≡ header_in ws wp b → None ≡ action_of h.action_code → Err UnknownAction ≡ received_in ws wp b
-  no_action h e n = sym (ap (with_signed (signed_from b)) (read_as h e ∙ ap (asked_by ws wp b) (sym n)))
+  pub no_action : (h : Header) → Ok h ≡ header_in ws wp b → action_of h.action_code ≡ None → Err UnknownAction ≡ received_in ws wp b
+  no_action h e n = sym (ap (with_signed (signed_from b)) (read_as h e ∙ ap (asked_by ws wp b) n))
 
-  pub no_arguments : (h : Header) (action : Action) (why : Refusal) → Ok h ≡ header_in ws wp b → Some action ≡ action_of h.action_code → Err why ≡ arguments_in ws wp action h.arguments.bytes → Err Malformed ≡ received_in ws wp b
-  no_arguments h action why e a r =
+  pub no_arguments : (h : Header) (action : Action) (why : Refusal) → Ok h ≡ header_in ws wp b → action_of h.action_code ≡ Some action → why ≡ Malformed → Err why ≡ arguments_in ws wp action h.arguments.bytes → Err why ≡ received_in ws wp b
+  no_arguments h action why e a malformed r =
       let f = header_found h e in
       let g = r ∙ ap (λ z. arguments_in ws wp action z.arguments.bytes) (sym f.1) in
-      sym (ap (with_signed (signed_from b)) (read_as h e ∙ (ap (asked_by ws wp b) (sym a) ∙ ap or_malformed (sym g))))
+      ap Err malformed ∙ sym (ap (with_signed (signed_from b)) (read_as h e ∙ (ap (asked_by ws wp b) a ∙ ap or_malformed (sym g))))
 
-  pub all_read : (h : Header) (action : Action) (asked : Arguments) → Ok h ≡ header_in ws wp b → Some action ≡ action_of h.action_code → Ok asked ≡ arguments_in ws wp action h.arguments.bytes
+  pub all_read : (h : Header) (action : Action) (asked : Arguments) → Ok h ≡ header_in ws wp b → action_of h.action_code ≡ Some action → Ok asked ≡ arguments_in ws wp action h.arguments.bytes
       → Ok (record { signed = record { kind = Some h.kind; control = h.control_number; key_number = h.key_number; number = h.sequence_number; signer = h.signer; text = h.signed_text.bytes; tag = h.tag.bytes }; asked = asked }) ≡ received_in ws wp b
   all_read h action asked e a r =
       let f = header_found h e in
       let g = r ∙ ap (λ z. arguments_in ws wp action z.arguments.bytes) (sym f.1) in
       let s = ap (signed ws wp b f.0) (sym f.1) ∙ signed_is ws wp b f.0 in
       ap {B = Result Received Refusal} (λ z. Ok (record { signed = z; asked = asked })) s
-      ∙ sym (ap (with_signed (signed_from b)) (read_as h e ∙ (ap (asked_by ws wp b) (sym a) ∙ ap or_malformed (sym g))))
+      ∙ sym (ap (with_signed (signed_from b)) (read_as h e ∙ (ap (asked_by ws wp b) a ∙ ap or_malformed (sym g))))
 
 -- what the code reads, field by field
 pub field_by_field : (h : Header) (asked : Arguments) (r : Result Received Refusal) {k : Kind} {c i n : ℕ} {w t g : List ℕ}
@@ -113,3 +115,12 @@ pub field_by_field : (h : Header) (asked : Arguments) (r : Result Received Refus
     → Ok (record { signed = record { kind = Some h.kind; control = h.control_number; key_number = h.key_number; number = h.sequence_number; signer = h.signer; text = h.signed_text.bytes; tag = h.tag.bytes }; asked = asked }) ≡ r
     → Ok (record { signed = record { kind = Some k; control = c; key_number = i; number = n; signer = w; text = t; tag = g }; asked = asked }) ≡ r
 field_by_field h asked r ek ec ei en ew et eg e = cc
+
+-- the action that a code is read as, and the refusal where there is none
+pub action_told : (code : ℕ) (o : Option Action) (action : Action) → action_of code ≡ o → MatchOption o (◌≡◌ {A = Result Action Refusal} (Ok action) (Err UnknownAction)) (λ a. ◌≡◌ {A = Result Action Refusal} (Ok action) (Ok a)) → action_of code ≡ Some action
+action_told code None action is e = let z : ◌≡◌ {A = ℕ} 0 1 = cc in absurd (omega arith)
+action_told code (Some a) action is e = cc
+
+pub no_action_told : (code : ℕ) (o : Option Action) (why : Refusal) → action_of code ≡ o → MatchOption o (◌≡◌ {A = Result Action Refusal} (Err why) (Err UnknownAction)) (λ a. ◌≡◌ {A = Result Action Refusal} (Err why) (Ok a)) → (action_of code ≡ None) × (why ≡ UnknownAction)
+no_action_told code None why is e = (is, cc)
+no_action_told code (Some a) why is e = let z : ◌≡◌ {A = ℕ} 0 1 = cc in absurd (omega arith)

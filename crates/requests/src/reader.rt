@@ -12,15 +12,9 @@ use wire::envelope::Envelope;
 pub fn receive<'a, V: Verifier, P: Verifier>(bytes: &'a [u8]) -> Result<Request<'a>, Refusal>
     ensures as_defined { answered result ≡ received_in V.Verifier.width P.Verifier.width bytes.now }
 {
-    let Ok(envelope) = Envelope::read::<V, P>(bytes) else {
-        return Err(Refusal::Malformed);
-    };
-    let Some(action) = Action::from_code(envelope.action_code()) else {
-        return Err(Refusal::UnknownAction);
-    };
-    let Ok(arguments) = Arguments::read::<V, P>(action, envelope.arguments().bytes) else {
-        return Err(Refusal::Malformed);
-    };
+    let envelope = Envelope::read::<V, P>(bytes)?;
+    let action = Action::try_from(envelope.action_code())?;
+    let arguments = Arguments::read::<V, P>(action, envelope.arguments().bytes)?;
     Ok(Request {
         kind: envelope.kind(),
         control_number: envelope.control_number(),

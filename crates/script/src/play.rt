@@ -1,11 +1,11 @@
 // A whole input played: each statement answered in order, and an account of all.
-ghost use Rattle.std.specs.Prelude.{◌≡◌, cond, List, [], ◌∷◌, ◌++◌, IfOk, OnOk};
-ghost use Rattle.account.specs.Accounts.{empty, tally};
+ghost use Rattle.std.specs.Prelude.{◌≡◌, ◌==◌, cond, List, [], ◌∷◌, ◌++◌, IfOk, OnOk};
+ghost use Rattle.account.specs.Accounts.{empty};
 ghost use Rattle.script.specs.Plays.{reply_to_line, shown_reply, noted_reply, transcript, account_of};
 
 use account::Account;
 use reply::{Reply, evaluate, line};
-use statement::lines::{split_once, trim};
+use statement::lines::trim;
 use statement::parse;
 use std::alloc::{AllocError, Global};
 
@@ -27,7 +27,7 @@ impl Session {
     // A session in which nothing was said.
     fn new(heap: Global) -> Session
         ensures nothing_printed { result.output.items ≡ [] }
-        ensures nothing_noted { tally result.account ≡ empty }
+        ensures nothing_noted { result.account ≡ empty }
     {
         Session {
             output: Vec::new(heap),
@@ -38,7 +38,7 @@ impl Session {
     // Answers one line.
     fn answer(&mut self, heap: Global, number: usize, text: &[u8]) -> Result<(), AllocError>
         ensures printed { OnOk result (self.new.output.items ≡ self.old.output.items ++ shown_reply number (reply_to_line text.now)) }
-        ensures noted { OnOk result (tally self.new.account ≡ noted_reply (tally self.old.account) (reply_to_line text.now)) }
+        ensures noted { OnOk result (self.new.account ≡ noted_reply self.old.account (reply_to_line text.now)) }
     {
         let Some(reply) = reply_to(heap, text)? else {
             return Ok(());
@@ -50,19 +50,20 @@ impl Session {
     }
 }
 
+fn ends_line(c: &u8) -> bool
+    ensures { result ≡ (c.now == 10) }
+{
+    *c == b'\n'
+}
+
 // Plays an input: answers each of its statements, in order.
 pub fn play(heap: Global, input: &[u8]) -> Result<Session, AllocError>
     ensures one_line_for_each_statement { IfOk result (λ s. s.output.items ≡ transcript input.now) }
-    ensures each_answer_noted { IfOk result (λ s. tally s.account ≡ account_of input.now) }
+    ensures each_answer_noted { IfOk result (λ s. s.account ≡ account_of input.now) }
 {
     let mut session = Session::new(heap);
-    let mut number = 1;
-    let mut rest = input;
-    while !rest.is_empty() {
-        let (text, after) = split_once(rest, b'\n');
-        session.answer(heap, number, text)?;
-        number += 1;
-        rest = after;
+    for (i, text) in input.split(ends_line).enumerate() {
+        session.answer(heap, i + 1, text)?;
     }
     Ok(session)
 }

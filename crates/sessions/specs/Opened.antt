@@ -1,17 +1,8 @@
--- The sessions that a session table keeps, as a list.
-use Rattle.std.specs.Prelude.{◌≡◌, ℕ, ◌<◌, min, Bool, ◌&&◌, List, [], length, take, ◌==◌, ◌≢◌, slice_index_or, slice_set}
+-- Sessions, and what a new last number leaves of the open ones.
+use Rattle.std.specs.Prelude.{◌≡◌, ℕ, ◌<◌, Bool, ◌&&◌, List, [], length, ◌==◌, ◌≢◌, slice_index_or, slice_set}
 use Rattle.std.specs.Str.{bytes_eq}
 use Rattle.sessions.specs.declared.types.Session.{Session}
 use Rattle.sessions.specs.declared.types.SessionName.{SessionName}
-use Rattle.sessions.specs.declared.types.Sessions.{Sessions}
-
--- the open sessions, first to last: the first `len` places, and all sixteen where `len` is above that
-abbrev pub opened : {S : Type 0} → Sessions S → List S
-opened t = take (min t.len 16) t.items
-
--- the table with another record at place i
-abbrev pub with_record : {S : Type 0} → Sessions S → ℕ → S → Sessions S
-with_record t i s = record { items = slice_set t.items i s; len = t.len }
 
 -- a session goes by its id and its signer
 abbrev pub name_of : Session → SessionName

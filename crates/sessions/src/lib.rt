@@ -1,7 +1,8 @@
-// The table of open sessions, whose records are lent and changed in place.
+// The table of open sessions, whose records are changed in place.
 #![tactic(auto)]
 
 mod sessions;
 mod types;
 
-pub use types::{Session, SessionName, Sessions};
+pub use sessions::{Sessions, set_last};
+pub use types::{Session, SessionName};

@@ -1,6 +1,6 @@
-// Sessions, their names, and the table of them.
+// Sessions and their names.
 // An open session: who signs under it, by which key, and the last number that was used.
-#[derive(Clone, Copy)]
+#[derive(Clone, Copy, PartialEq, Eq, Debug, Default)]
 pub struct Session {
     pub id: u64,
     pub signer: [u8; 20],
@@ -9,15 +9,8 @@ pub struct Session {
 }
 
 // What a session is found by.
-#[derive(Clone, Copy)]
+#[derive(Clone, Copy, PartialEq, Eq, Debug)]
 pub struct SessionName {
     pub id: u64,
     pub signer: [u8; 20],
-}
-
-// At most 16 open sessions, in the order in which they were opened. A plain table: any count of it is sound.
-#[derive(Drop)]
-pub struct Sessions<S = Session> {
-    pub(crate) items: [S; 16],
-    pub(crate) len: usize,
 }

@@ -3,3 +3,4 @@ pub mod Digest
 pub mod Absorbing
 pub mod Padding
 pub mod Masks
+pub mod Pieces

@@ -22,13 +22,13 @@ take-start k z e h = ap (λ x. take x start) e ∙ ap (λ xs. 128 ∷ xs) (take-
 
 module _ (n t : ℕ) (e : t ≡ n % 2 ^ 64) where
   -- the byte 128, zeros, and behind them the length's bytes w
-  pub padding_written : (out w : List ℕ) (size k : ℕ) → w ≡ eight_bytes (8 * t % 2 ^ 64) → size ≡ 1 + zeros t → k ≡ size + 8
+  pub padding_written : (out w : List ℕ) (size k : ℕ) → w ≡ eight_bytes (t * 8 % 2 ^ 64) → size ≡ 1 + zeros t → k ≡ size + 8
       → take (size + length w) out ≡ take size start ++ w
       → take k out ≡ padding n
   unfolding padding
   padding_written out w size k g i j put =
       let eight : length w ≡ 8 = ap length g in
       let front = take-start size (zeros n) (omega arith) (omega arith) in
-      let l : 8 * t % 2 ^ 64 ≡ 8 * n % 2 ^ 64 = omega arith in
+      let l : t * 8 % 2 ^ 64 ≡ 8 * n % 2 ^ 64 = omega arith in
       ap (λ x. take x out) (j ∙ ap (λ x. size + x) (sym eight)) ∙ put
       ∙ ap (λ x. x ++ w) front ∙ ap (λ x. 128 ∷ (replicate (zeros n) 0 ++ x)) (g ∙ ap eight_bytes l)

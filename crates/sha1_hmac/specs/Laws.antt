@@ -1,8 +1,8 @@
 -- What the definitions come to, in the words of the two standards.
-use Rattle.std.specs.Prelude.{◌≡◌, ℕ, ◌+◌, ◌-◌, ◌*◌, ◌%◌, ◌<◌, ◌≤◌, List, ◌++◌, length, replicate}
+use Rattle.std.specs.Prelude.{◌≡◌, ℕ, ◌+◌, ◌-◌, ◌*◌, ◌%◌, ◌<◌, ◌≤◌, List, length}
 use Rattle.sha1_hmac.specs.Compression.{big_endian, mixed, scheduled}
 use Rattle.sha1_hmac.specs.Message.{zeros, padded}
-use Rattle.sha1_hmac.specs.Keyed.{hmac_of}
+use Rattle.sha1_hmac.specs.Keyed.{hmac_of, filled}
 
 -- FIPS 180-4, section 6.1.2, step 1: W_t is M_t below 16, and ROTL¹(W_{t-3} ⊕ W_{t-8} ⊕ W_{t-14} ⊕ W_{t-16}) from there on.
 abbrev pub ScheduleFollowsTheRecurrence : Type 0
@@ -26,4 +26,4 @@ PaddingEndsABlock = (message : List ℕ) → length (padded message) % 64 ≡ 0
 -- RFC 2104, section 2: a key shorter than a block stands for itself with zeros appended, so twenty bytes serve any key of at most twenty.
 abbrev pub ZerosDoNotChangeAKey : Type 0
 ZerosDoNotChangeAKey =
-    (key text : List ℕ) → length key ≤ 20 → hmac_of (key ++ replicate (20 - length key) 0) text ≡ hmac_of key text
+    (key text : List ℕ) → length key ≤ 20 → hmac_of (filled key) text ≡ hmac_of key text

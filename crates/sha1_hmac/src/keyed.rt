@@ -1,6 +1,5 @@
-ghost use Rattle.std.specs.Prelude.{◌≡◌, ℕ, List, [], ◌++◌};
-ghost use Rattle.sha1_hmac.specs.Stream.{Absorbed};
-ghost use Rattle.sha1_hmac.specs.Keyed.{masked, hmac_of, Authenticates};
+ghost use Rattle.std.specs.Prelude.{◌≡◌, ℕ, List, [], ◌++◌, IfSome};
+ghost use Rattle.sha1_hmac.specs.Keyed.{masked, hmac_of, Authenticates, key_from};
 ghost use Rattle.sha1_hmac.specs.Laws.{ZerosDoNotChangeAKey};
 
 use crate::stream::{Sha1, absorbed};
@@ -22,18 +21,25 @@ fn mask_key(key: [u8; 20], mask: u8) -> [u8; 64]
     ensures masks { result ≡ masked mask key }
     ensures zeros_do_not_change_a_key { ZerosDoNotChangeAKey }
 {
-    let mut block = [mask; 64];
-    for i in 0..20 {
-        block[i] = key[i] ^ mask;
+    let mut block = [0; 64];
+    block[..20].copy_from_slice(&key);
+    for byte in &mut block {
+        *byte ^= mask;
     }
     block
 }
 
-// Takes in a part of the text, which lies behind the masked key.
-fn extend(inner: &mut Sha1, part: &[u8])
-    ensures { (front text : List ℕ) → Absorbed inner.old (front ++ text) → Absorbed inner.new (front ++ (text ++ part.now)) }
+// The key of at most 20 bytes, with zeros behind them. There is none of more bytes.
+pub fn key_from(bytes: &[u8]) -> Option<[u8; 20]>
+    ensures as_defined { result ≡ key_from bytes.now }
+    ensures gives_the_tags_of_the_bytes { IfSome result (λ key. (text : List ℕ) → hmac_of key text ≡ hmac_of bytes.now text) }
 {
-    inner.update(part);
+    if bytes.len() > 20 {
+        return None;
+    }
+    let mut key = [0; 20];
+    key[..bytes.len()].copy_from_slice(bytes);
+    Some(key)
 }
 
 impl Hmac {
@@ -51,7 +57,7 @@ impl Hmac {
     pub fn update(&mut self, part: &[u8])
         ensures absorbs { (key text : List ℕ) → Authenticates self.old key text → Authenticates self.new key (text ++ part.now) }
     {
-        extend(&mut self.inner, part);
+        self.inner.update(part);
     }
 
     // The tag of the text absorbed.

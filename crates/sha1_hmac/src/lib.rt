@@ -8,7 +8,7 @@ mod compression;
 mod keyed;
 mod stream;
 
-pub use keyed::Hmac;
+pub use keyed::{Hmac, key_from};
 pub use stream::Sha1;
 use stream::absorbed;
 

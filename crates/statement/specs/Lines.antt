@@ -1,15 +1,14 @@
 -- The lines of an input, and the words of a line.
-use Rattle.std.specs.Prelude.{ℕ, ◌-◌, Bool, true, false, cond, ◌&&◌, ◌||◌, List, [], ◌∷◌, length, take, ◌==◌, slice_index}
+use Rattle.std.specs.List.{list_all, before_first, after_first}
+use Rattle.std.specs.Prelude.{ℕ, ◌-◌, Bool, false, cond, ◌||◌, List, [], ◌∷◌, length, take, ◌==◌, slice_index}
 
--- the bytes before the first separator
+-- the bytes before the first separator, or all where there is none
 abbrev pub before : ℕ → List ℕ → List ℕ
-before sep [] = []
-before sep (c ∷ cs) = cond (c == sep) [] (c ∷ before sep cs)
+before sep bytes = before_first (λ c. c == sep) bytes
 
 -- the bytes after the first separator
 abbrev pub after : ℕ → List ℕ → List ℕ
-after sep [] = []
-after sep (c ∷ cs) = cond (c == sep) cs (after sep cs)
+after sep bytes = after_first (λ c. c == sep) bytes
 
 -- a space or a tab
 abbrev pub space : ℕ → Bool
@@ -17,8 +16,7 @@ space c = c == 32 || c == 9
 
 -- spaces and tabs only
 abbrev pub blank : List ℕ → Bool
-blank [] = true
-blank (c ∷ cs) = space c && blank cs
+blank line = list_all space line
 
 -- a line that begins with '#'
 abbrev pub comment : List ℕ → Bool

@@ -28,22 +28,11 @@ pub enum Statement<'a> {
     Unknown,
 }
 
-// Whether a byte is a space or a tab.
-fn is_space(c: u8) -> bool
-    ensures { result ≡ space c }
-{
-    c == b' ' || c == b'\t'
-}
-
 // Whether a line has only spaces and tabs.
 fn is_blank(line: &[u8]) -> bool
     ensures { result ≡ blank line.now }
 {
-    let mut all = true;
-    for c in line {
-        all = all & is_space(*c);
-    }
-    all
+    line.iter().all(|c| *c == b' ' || *c == b'\t')
 }
 
 // Whether a line begins with '#'.
@@ -61,6 +50,7 @@ pub fn parse(line: &[u8]) -> Statement<'_>
         return Statement::Nothing;
     }
     let (word, argument) = split_once(line, b' ');
+    // A `match` over these words is cut into some thirty ways over single bytes, and the check finds no proof of the last arm.
     if word == b"hash".as_slice() {
         return Statement::Hash(argument);
     }

@@ -4,14 +4,20 @@
 ghost use Rattle.std.specs.Prelude.{◌&&◌, ◌==◌};
 ghost use Rattle.tables_cases.specs.Entries.{fields_decide};
 
-use sessions::{Session, SessionName, Sessions};
-use std::io;
-use tables::{Appended, Record, Table};
+use sessions::{Session, SessionName, Sessions, set_last};
+use std::{fmt, io};
+use tables::{Full, Record, Table};
 
-#[derive(Clone, Copy)]
+#[derive(Clone, Copy, PartialEq, Eq, Default)]
 struct Entry {
     subject: u32,
     mask: u32,
+}
+
+impl fmt::Display for Entry {
+    fn fmt<W: fmt::Write>(&self, f: &mut fmt::Formatter<W>) -> fmt::Result {
+        write!(f, "{}/{}", self.subject, self.mask)
+    }
 }
 
 impl Record for Entry {
@@ -24,35 +30,37 @@ impl Record for Entry {
     ghost decides = { fields_decide };
 
     fn has_key(&self, sought: &Entry) -> bool {
-        self.subject == sought.subject && self.mask == sought.mask
+        *self == *sought
     }
 }
 
-fn told(answer: Appended) -> &'static str {
-    match answer {
-        Appended::Done => "done",
-        Appended::Full => "full",
+// What an append answered.
+#[derive(Clone, Copy)]
+struct Answer(Result<(), Full>);
+
+impl fmt::Display for Answer {
+    fn fmt<W: fmt::Write>(&self, f: &mut fmt::Formatter<W>) -> fmt::Result {
+        match self.0 {
+            Ok(()) => write!(f, "done"),
+            Err(Full) => write!(f, "full"),
+        }
     }
 }
 
 fn show(rt: &HostRuntime, table: &Table<Entry, 3>) -> io::Result<()> {
     print!(rt; "kept")?;
-    for e in table.as_slice() {
-        let subject = e.subject;
-        let mask = e.mask;
-        print!(rt; " {subject}/{mask}")?;
+    for entry in table.as_slice() {
+        print!(rt; " {entry}")?;
     }
     println!(rt; "")
 }
 
 fn entries(rt: &HostRuntime) -> io::Result<()> {
-    let mut table: Table<Entry, 3> = Table::new(Entry {
-        subject: 0,
-        mask: 0,
-    });
+    let mut table: Table<Entry, 3> = Table::default();
     for (subject, mask) in [(1, 1), (2, 1), (1, 2), (3, 3)] {
-        let answer = told(table.append(Entry { subject, mask }));
-        println!(rt; "append {subject}/{mask}: {answer}")?;
+        let entry = Entry { subject, mask };
+        let answer = Answer(table.append(entry));
+        println!(rt; "append {entry}: {answer}")?;
     }
     show(rt, &table)?;
     let place = table.find(&Entry {
@@ -89,16 +97,14 @@ fn named(id: u64, signer: u8) -> SessionName {
 
 fn lasts(rt: &HostRuntime, sessions: &Sessions) -> io::Result<()> {
     print!(rt; "open")?;
-    for s in sessions.as_slice() {
-        let id = s.id;
-        let last = s.last;
-        print!(rt; " {id}:{last}")?;
+    for session in sessions.as_slice() {
+        print!(rt; " {}:{}", session.id, session.last)?;
     }
     println!(rt; "")
 }
 
 fn sessions(rt: &HostRuntime) -> io::Result<()> {
-    let mut sessions = Sessions::new();
+    let mut sessions = Sessions::default();
     for id in 0..17u64 {
         let answer = sessions.append(Session {
             id,
@@ -107,7 +113,7 @@ fn sessions(rt: &HostRuntime) -> io::Result<()> {
             last: 0,
         });
         if id > 14 {
-            let answer = told(answer);
+            let answer = Answer(answer);
             println!(rt; "open {id}: {answer}")?;
         }
     }
@@ -116,8 +122,8 @@ fn sessions(rt: &HostRuntime) -> io::Result<()> {
     let Some(i) = sessions.find(&named(3, 7)) else {
         return println!(rt; "session 3 is lost");
     };
-    let set = sessions.set_last(i, 40);
-    let past = sessions.set_last(16, 41);
+    let set = set_last(&mut sessions, i, 40);
+    let past = set_last(&mut sessions, 16, 41);
     println!(rt; "set last at {i}: {set}, at 16: {past}")?;
     let closed = sessions.remove(&named(0, 7)).is_some();
     println!(rt; "close 0: {closed}")?;

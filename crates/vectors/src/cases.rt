@@ -1,56 +1,47 @@
-ghost use Rattle.std.specs.Prelude.{◌≡◌, ◌-◌, ◌<◌, ◌++◌, length, replicate, MatchOption};
+ghost use Rattle.std.specs.Prelude.{◌≡◌, ◌++◌};
 ghost use Rattle.sha1_hmac.specs.Message.{digest};
 ghost use Rattle.sha1_hmac.specs.Keyed.{hmac_of};
 ghost use Rattle.vectors.specs.Copies.{copies};
 
-use crate::hex::{Digest, decode};
 use anyhow::{Context, anyhow};
+use hexadecimal::Digits;
 use sha1_hmac::{Hmac, Sha1};
 use std::alloc::Global;
 
-// SHA-1 of a text that comes in two pieces, cut at `cut`.
-fn in_pieces(text: &[u8], cut: usize) -> [u8; 20]
-    ensures { result ≡ digest text.now }
+// SHA-1 of a text that comes in two pieces.
+fn in_pieces(front: &[u8], back: &[u8]) -> [u8; 20]
+    ensures { result ≡ digest (front.now ++ back.now) }
 {
-    let (front, back) = text.split_at(cut.min(text.len()));
     let mut state = Sha1::new();
     state.update(front);
     state.update(back);
     state.finish()
 }
 
-// HMAC-SHA1 of a text that comes in two pieces, cut at `cut`.
-fn hmac_in_pieces(key: [u8; 20], text: &[u8], cut: usize) -> [u8; 20]
-    ensures { result ≡ hmac_of key text.now }
+// HMAC-SHA1 of a text that comes in two pieces. A trait over the two states, with a relation of states to texts and an impl for each, would be longer than these calls.
+fn hmac_in_pieces(key: [u8; 20], front: &[u8], back: &[u8]) -> [u8; 20]
+    ensures { result ≡ hmac_of key (front.now ++ back.now) }
 {
-    let (front, back) = text.split_at(cut.min(text.len()));
     let mut state = Hmac::new(key);
     state.update(front);
     state.update(back);
     state.finish()
 }
 
-// How many of the cuts give another digest than the whole text.
-fn differing_cuts(text: &[u8]) -> usize {
-    let whole = sha1_hmac::sha1(text);
-    let mut differing = 0usize;
-    for cut in 0..text.len() {
-        if in_pieces(text, cut) != whole {
-            differing = differing.saturating_add(1);
-        }
-    }
-    differing
-}
-
-fn differing_hmac_cuts(key: [u8; 20], text: &[u8]) -> usize {
-    let whole = sha1_hmac::hmac(key, text);
-    let mut differing = 0usize;
-    for cut in 0..text.len() {
-        if hmac_in_pieces(key, text, cut) != whole {
-            differing = differing.saturating_add(1);
-        }
-    }
-    differing
+// How many of the cuts into two pieces give another answer than the whole text.
+fn differing_cuts<F: Fn(&[u8], &[u8]) -> [u8; 20]>(
+    text: &[u8],
+    whole: [u8; 20],
+    in_pieces: F,
+) -> usize
+    requires { F.IsAlwaysCallable in_pieces }
+{
+    (0..text.len())
+        .filter(|cut| {
+            let (front, back) = text.split_at((*cut).min(text.len()));
+            in_pieces(front, back) != whole
+        })
+        .count()
 }
 
 // SHA-1 of a text `count` times in a row.
@@ -64,38 +55,34 @@ fn repeated(count: u32, text: &[u8]) -> [u8; 20]
     state.finish()
 }
 
-// A key of at most twenty bytes, with zeros after it.
-fn filled(key: &[u8]) -> Option<[u8; 20]>
-    ensures { MatchOption result (20 < length key.now) (λ k. k ≡ key.now ++ replicate (20 - length key.now) 0) }
-{
-    if key.len() > 20 {
-        return None;
-    }
-    let mut all = [0; 20];
-    all[0..key.len()].copy_from_slice(key);
-    Some(all)
+// The bytes that a word names.
+fn decode(heap: Global, word: &str) -> anyhow::Result<Vec<u8>> {
+    hexadecimal::bytes_named(heap, word.as_bytes())?.context("not hexadecimal digits")
 }
 
 fn hash_case(heap: Global, text: &str) -> anyhow::Result<String> {
     let text = decode(heap, text)?;
-    let digest = Digest(sha1_hmac::sha1(&text));
-    let differing = differing_cuts(&text);
+    let whole = sha1_hmac::sha1(&text);
+    let differing = differing_cuts(&text, whole, in_pieces);
+    let digest = Digits { bytes: &whole };
     Ok(format!(in heap; "{digest}, other at {differing} cuts")?)
 }
 
 fn repeat_case(heap: Global, words: &str) -> anyhow::Result<String> {
     let (count, text) = words.split_once(' ').context("no count")?;
     let text = decode(heap, text)?;
-    let digest = Digest(repeated(count.parse::<u32>()?, &text));
+    let digest = repeated(count.parse::<u32>()?, &text);
+    let digest = Digits { bytes: &digest };
     Ok(format!(in heap; "{digest}")?)
 }
 
 fn hmac_case(heap: Global, words: &str) -> anyhow::Result<String> {
     let (key, text) = words.split_once(' ').context("no key")?;
-    let key = filled(&decode(heap, key)?).context("a long key")?;
+    let key = sha1_hmac::key_from(&decode(heap, key)?).context("a long key")?;
     let text = decode(heap, text)?;
-    let digest = Digest(sha1_hmac::hmac(key, &text));
-    let differing = differing_hmac_cuts(key, &text);
+    let whole = sha1_hmac::hmac(key, &text);
+    let differing = differing_cuts(&text, whole, |front, back| hmac_in_pieces(key, front, back));
+    let digest = Digits { bytes: &whole };
     Ok(format!(in heap; "{digest}, other at {differing} cuts")?)
 }
 

@@ -3,7 +3,6 @@
 #![tactic(auto)]
 
 mod cases;
-mod hex;
 
 fn run(rt: &HostRuntime) -> anyhow::Result<()> {
     for line in rt.lines(rt.alloc()) {

@@ -24,8 +24,8 @@ abbrev pub cover_told : List ℕ → List ℕ → List ℕ → Result (List ℕ)
 cover_told term name out = cond (length out == 1) (verdict (covering term name)) (Err Malformed)
 
 -- the answer: 0, or the refusal's error code
-abbrev pub answer : Result (List ℕ) Refusal → ℕ
-answer (Ok bytes) = 0
+abbrev pub answer : {A : Type 0} → Result A Refusal → ℕ
+answer (Ok value) = 0
 answer (Err refusal) = (report refusal).code
 
 -- the output afterwards: the result, or what it held

@@ -1,16 +1,13 @@
 -- Parts written one after the other.
-use Rattle.std.proofs.Common.{◌≡◌, ℕ, ◌+◌, ◌<◌, ◌≤◌, cond, List, ◌++◌, length, take, drop, is_ok, Ok, Err, ap, ◌∙◌}
-use Rattle.std.proofs.lemmas.List.{append_assoc, take-append-drop}
+use Rattle.std.proofs.Common.{◌≡◌, ℕ, ◌+◌, ◌<◌, ◌≤◌, cond, List, ◌++◌, length, drop, is_ok, Ok, Err, ap, ◌∙◌}
+use Rattle.std.proofs.lemmas.List.{append_assoc}
 use Rattle.std.proofs.lemmas.Bool.{le-leb, lt-leb, cond-true, cond-false}
 use Rattle.refusal.specs.declared.Refusal.{Refusal}
 use Rattle.refusal.specs.declared.Refusal.TheVariants.{Malformed, ShortBuffer}
 use Rattle.wire.specs.Writing.{Fields, text_length, longest, signed_text_of, writing, filled}
 
-pub five_parts : (o₀ o₁ o₂ o₃ o₄ o₅ p q s u v : List ℕ) (a b c d e : ℕ) → take a o₁ ≡ p → take b o₂ ≡ take a o₁ ++ q → take c o₃ ≡ take b o₂ ++ s → take d o₄ ≡ take c o₃ ++ u → take e o₅ ≡ take d o₄ ++ v → drop e o₅ ≡ drop e o₄ → drop e o₄ ≡ drop e o₃ → drop e o₃ ≡ drop e o₂ → drop e o₂ ≡ drop e o₁ → drop e o₁ ≡ drop e o₀ → o₅ ≡ (p ++ (q ++ (s ++ (u ++ v)))) ++ drop e o₀
-five_parts o₀ o₁ o₂ o₃ o₄ o₅ p q s u v a b c d e f₁ f₂ f₃ f₄ f₅ b₅ b₄ b₃ b₂ b₁ =
-    let whole = take-append-drop e o₅ in
-    let flat : (((p ++ q) ++ s) ++ u) ++ v ≡ p ++ (q ++ (s ++ (u ++ v))) = simp append_assoc in
-    cc
+pub five_parts : (p q s u v rest : List ℕ) → p ++ (q ++ (s ++ (u ++ (v ++ rest)))) ≡ (p ++ (q ++ (s ++ (u ++ v)))) ++ rest
+five_parts p q s u v rest = simp append_assoc
 
 -- the three ways of writing, and what the buffer holds after each
 pub too_long : (width : ℕ) (f : Fields) (room : ℕ) → longest < text_length f + width → writing width f room ≡ Err Malformed

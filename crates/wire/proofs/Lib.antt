@@ -1,4 +1,3 @@
-pub mod Bytes
 mod Same
 pub mod Headers
 mod Written

@@ -1,13 +1,13 @@
 // An envelope, read where it lies.
 ghost use Rattle.std.specs.Prelude.{◌≡◌, ◌+◌, ◌≤◌, true, length, take, drop, is_ok, Decides};
 ghost use Rattle.std.specs.Str.{bytes_eq};
-ghost use Rattle.wire.specs.Envelope.{kind_in, header_length, arguments_place, arguments_length, tag_place, tag_length, no_signer, unused_fields_zero, places_agree, sound_of_kind, sound_header, WellFormedHeader, PartsLie};
+ghost use Rattle.wire.specs.Envelope.{kind_of, kind_in, header_length, arguments_place, arguments_length, tag_place, tag_length, no_signer, unused_fields_zero, places_agree, sound_of_kind, sound_header, WellFormedHeader, PartsLie};
 ghost use Rattle.wire.specs.Header.{placed, header_of, header_in};
 ghost use Rattle.wire.specs.Views.{part as part_of, header as headerFrom, answered};
 
-use crate::fields::{hash_at, u8_at, u16_at, u32_at, u64_at};
+use crate::fields::{array_at, u16_at, u32_at, u64_at};
 use crate::layout::*;
-use crate::types::Kind;
+use crate::types::{Kind, TagLengths};
 use parties::verifier::Verifier;
 use refusal::Refusal;
 
@@ -46,11 +46,8 @@ fn places_agree(bytes: &[u8], kind: Kind, width: usize) -> bool
         & (((tag == arguments_end) & (tag + tag_length == total)) & (tag_length == width))
 }
 
-fn is_no_signer(hash: [u8; 20]) -> bool
-    ensures { result ≡ bytes_eq hash no_signer }
-{
-    hash == [0; 20]
-}
+// What stands in place of a signer's hash where no one signs.
+const NO_SIGNER: [u8; 20] = [0; 20];
 
 // Whether the fields that the kind has no use for are zero.
 fn unused_fields_zero(bytes: &[u8], kind: Kind) -> bool
@@ -60,7 +57,7 @@ fn unused_fields_zero(bytes: &[u8], kind: Kind) -> bool
     match kind {
         Kind::Unmarked => {
             ((u64_at(bytes, KEY_NUMBER) == 0) & (u32_at(bytes, SEQUENCE_NUMBER) == 0))
-                & is_no_signer(hash_at(bytes, SIGNER))
+                & (array_at(bytes, SIGNER) == NO_SIGNER)
         }
         Kind::Session => true,
         Kind::PublicKey => u32_at(bytes, SEQUENCE_NUMBER) == 0,
@@ -91,11 +88,11 @@ fn opened<'a>(bytes: &'a [u8], kind: Kind) -> Envelope<'a>
     let tag_length = usize::from(u16_at(bytes, TAG_LENGTH));
     Envelope {
         kind,
-        action_code: u8_at(bytes, ACTION_CODE),
+        action_code: bytes[ACTION_CODE],
         control_number: u16_at(bytes, CONTROL_NUMBER),
         key_number: u64_at(bytes, KEY_NUMBER),
         sequence_number: u64::from(u32_at(bytes, SEQUENCE_NUMBER)),
-        signer: hash_at(bytes, SIGNER),
+        signer: array_at(bytes, SIGNER),
         arguments: part_of(bytes, arguments, arguments_length),
         signed_text: part_of(bytes, 0, tag),
         tag: part_of(bytes, tag, tag_length),
@@ -112,16 +109,24 @@ fn part_of<'a>(bytes: &'a [u8], offset: usize, count: usize) -> Part<'a>
     }
 }
 
-// Reads an envelope, with the tag lengths of the session verifier and of the public verifier.
-fn read_with<'a>(bytes: &'a [u8], session: usize, public: usize) -> Result<Envelope<'a>, Refusal>
-    ensures as_defined { answered result ≡ header_in session public bytes.now }
-    ensures accepts_exactly_the_well_formed { Decides (is_ok result) (WellFormedHeader session public bytes.now) }
-    ensures parts_lie_as_laid_out { sound_header session public bytes.now ≡ true → PartsLie session public bytes.now }
+// The kind of an envelope, by its first byte.
+fn kind_in(bytes: &[u8]) -> Option<Kind>
+    ensures { result ≡ kind_of bytes.now }
 {
-    let Some(kind) = kind_in(bytes) else {
-        return Err(Refusal::Malformed);
+    let [number, ..] = bytes else {
+        return None;
     };
-    if !is_sound(bytes, kind, tag_width(kind, session, public)) {
+    Kind::try_from(*number).ok()
+}
+
+// Reads an envelope whose tags are so long.
+fn read_with<'a>(bytes: &'a [u8], lengths: TagLengths) -> Result<Envelope<'a>, Refusal>
+    ensures as_defined { answered result ≡ header_in lengths.session lengths.public bytes.now }
+    ensures accepts_exactly_the_well_formed { Decides (is_ok result) (WellFormedHeader lengths.session lengths.public bytes.now) }
+    ensures parts_lie_as_laid_out { sound_header lengths.session lengths.public bytes.now ≡ true → PartsLie lengths.session lengths.public bytes.now }
+{
+    let kind = kind_in(bytes).ok_or(Refusal::Malformed)?;
+    if !is_sound(bytes, kind, lengths.for_kind(kind)) {
         return Err(Refusal::Malformed);
     }
     Ok(opened(bytes, kind))
@@ -134,7 +139,7 @@ impl<'a> Envelope<'a> {
         ensures accepts_exactly_the_well_formed { Decides (is_ok result) (WellFormedHeader S.Verifier.width P.Verifier.width bytes.now) }
         ensures parts_lie_as_laid_out { sound_header S.Verifier.width P.Verifier.width bytes.now ≡ true → PartsLie S.Verifier.width P.Verifier.width bytes.now }
     {
-        read_with(bytes, S::tag_width(), P::tag_width())
+        read_with(bytes, TagLengths::of::<S, P>())
     }
 
     pub fn kind(&self) -> Kind

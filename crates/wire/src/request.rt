@@ -4,8 +4,8 @@ ghost use Rattle.records.specs.Records.{big_endian};
 ghost use Rattle.wire.specs.Writing.{text_length, longest, front_bytes, signed_text_of, Fits, writing, filled, writing_for, filled_for, ReadsBack};
 ghost use Rattle.wire.specs.Requests.{kind_by, key_number_by, sequence_number_by, signer_by, fields_of};
 
-use crate::layout::{header_length, number_of, tag_width};
-use crate::types::Kind;
+use crate::layout::{KEY_NUMBER, SEQUENCE_NUMBER, SIGNER, header_length};
+use crate::types::{Kind, TagLengths};
 use parties::verifier::Verifier;
 use refusal::Refusal;
 
@@ -77,34 +77,11 @@ impl Signer {
     }
 }
 
+// A key hash has so many bytes.
+const HASH_LENGTH: usize = 20;
+
 // The longest envelope: its length is held in two bytes.
 const LONGEST: usize = 0xFFFF;
-
-fn eight_bytes(n: u64) -> [u8; 8]
-    ensures bytes { result ≡ big_endian 8 n }
-    ensures fits { n < 256 ^ 8 }
-{
-    n.to_be_bytes()
-}
-
-fn four_bytes(n: u32) -> [u8; 4]
-    ensures bytes { result ≡ big_endian 4 n }
-    ensures fits { n < 256 ^ 4 }
-{
-    n.to_be_bytes()
-}
-
-// Writes `part` into `out` from `at` on, and answers where it ends.
-fn put(out: &mut [u8], at: usize, part: &[u8]) -> usize
-    requires { at + length part.now ≤ length out.old }
-    ensures end { result ≡ at + length part.now }
-    ensures front { take result out.new ≡ take at out.old ++ part.now }
-    ensures back { (k : ℕ) → result ≤ k → drop k out.new ≡ drop k out.old }
-{
-    let end = at + part.len();
-    out[at..end].copy_from_slice(part);
-    end
-}
 
 impl Request<'_> {
     // The first fourteen bytes, where the tag has `width` bytes.
@@ -124,7 +101,7 @@ impl Request<'_> {
         let [g0, g1] = ((header + arguments) as u16).to_be_bytes();
         let [w0, w1] = (width as u16).to_be_bytes();
         [
-            number_of(kind),
+            kind.number(),
             self.action_code,
             c0,
             c1,
@@ -149,15 +126,17 @@ impl Request<'_> {
         ensures buffer { out.new ≡ signed_text_of width (fields_of self.now) ++ drop (text_length (fields_of self.now)) out.old }
         ensures fields_fit { Fits width (fields_of self.now) }
     {
-        let key_number = put(out, 0, &self.front(width));
-        let sequence_number = put(out, key_number, &eight_bytes(self.signer.key_number()));
-        let signer = put(
-            out,
-            sequence_number,
-            &four_bytes(self.signer.sequence_number()),
-        );
-        let arguments = put(out, signer, &self.signer.key_hash());
-        put(out, arguments, self.arguments)
+        let (front, rest) = out.split_at_mut(KEY_NUMBER);
+        let (key_number, rest) = rest.split_at_mut(SEQUENCE_NUMBER - KEY_NUMBER);
+        let (sequence_number, rest) = rest.split_at_mut(SIGNER - SEQUENCE_NUMBER);
+        let (signer, rest) = rest.split_at_mut(HASH_LENGTH);
+        let (arguments, _) = rest.split_at_mut(self.arguments.len());
+        front.copy_from_slice(&self.front(width));
+        key_number.copy_from_slice(&self.signer.key_number().to_be_bytes());
+        sequence_number.copy_from_slice(&self.signer.sequence_number().to_be_bytes());
+        signer.copy_from_slice(&self.signer.key_hash());
+        arguments.copy_from_slice(self.arguments);
+        SIGNER + HASH_LENGTH + self.arguments.len()
     }
 
     // The same for any buffer, where the tag has `width` bytes.
@@ -177,15 +156,13 @@ impl Request<'_> {
         Ok(self.put_text(width, out))
     }
 
-    // The same, with the tag lengths of the session verifier and of the public verifier.
-    fn write_for(&self, session: usize, public: usize, out: &mut [u8]) -> Result<usize, Refusal>
-        requires { (session ≤ 20) × (public ≤ 20) }
-        ensures as_defined { result ≡ writing_for session public (fields_of self.now) (length out.old) }
-        ensures buffer { out.new ≡ filled_for session public (fields_of self.now) out.old }
-        ensures reads_back { is_ok result ≡ true → ReadsBack session public (fields_of self.now) }
+    // The same, where the tags are so long.
+    fn write_for(&self, lengths: TagLengths, out: &mut [u8]) -> Result<usize, Refusal>
+        ensures as_defined { result ≡ writing_for lengths.session lengths.public (fields_of self.now) (length out.old) }
+        ensures buffer { out.new ≡ filled_for lengths.session lengths.public (fields_of self.now) out.old }
+        ensures reads_back { is_ok result ≡ true → ReadsBack lengths.session lengths.public (fields_of self.now) }
     {
-        let width = tag_width(self.signer.kind(), session, public);
-        self.write_with(width, out)
+        self.write_with(lengths.for_kind(self.signer.kind()), out)
     }
 
     // Writes the signed text of the envelope that says this, for these two verifiers, and answers its length.
@@ -195,6 +172,6 @@ impl Request<'_> {
         ensures buffer { out.new ≡ filled_for S.Verifier.width P.Verifier.width (fields_of self.now) out.old }
         ensures reads_back { is_ok result ≡ true → ReadsBack S.Verifier.width P.Verifier.width (fields_of self.now) }
     {
-        self.write_for(S::tag_width(), P::tag_width(), out)
+        self.write_for(TagLengths::of::<S, P>(), out)
     }
 }

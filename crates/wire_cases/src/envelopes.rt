@@ -2,7 +2,7 @@
 use crate::show;
 use crate::verifier::SixteenBytes;
 use actions::types::{Action, Arguments};
-use anyhow::anyhow;
+use anyhow::Context;
 use parties::hmac_verifier::HmacVerifier;
 use std::alloc::Global;
 use std::io;
@@ -11,10 +11,7 @@ use wire::request::{Request, Signer};
 use wire::types::Kind;
 
 fn digits_of(heap: Global, digits: &str) -> anyhow::Result<Vec<u8>> {
-    match hexadecimal::bytes_named(heap, digits.as_bytes())? {
-        Some(bytes) => Ok(bytes),
-        None => Err(anyhow!("not hexadecimal digits")),
-    }
+    hexadecimal::bytes_named(heap, digits.as_bytes())?.context("not hexadecimal digits")
 }
 
 // The bytes that a line names.
@@ -64,7 +61,7 @@ pub fn judge(rt: &HostRuntime, bytes: &[u8]) -> io::Result<()> {
     let Ok(envelope) = Envelope::read::<HmacVerifier, SixteenBytes>(bytes) else {
         return println!(rt; "malformed header");
     };
-    let Some(action) = Action::from_code(envelope.action_code()) else {
+    let Ok(action) = Action::try_from(envelope.action_code()) else {
         return println!(rt; "unknown action");
     };
     let given = envelope.arguments().bytes;

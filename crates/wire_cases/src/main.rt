@@ -6,10 +6,8 @@ mod envelopes;
 mod show;
 mod verifier;
 
-use std::io::{BufRead, BufReader};
-
 fn main(rt: HostRuntime) -> anyhow::Result<()> {
-    for line in BufReader::new(rt.alloc(), rt.stdin())?.lines(rt.alloc()) {
+    for line in rt.lines(rt.alloc()) {
         let line = line?;
         let bytes = envelopes::bytes_of(rt.alloc(), line.as_str())?;
         envelopes::judge(&rt, bytes.as_slice())?;

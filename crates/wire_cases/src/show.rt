@@ -1,20 +1,14 @@
 // What an envelope and its arguments say, as text.
 use actions::types::Arguments;
+use hexadecimal::Digits;
 use records::Scope;
 use std::io;
 use wire::envelope::{Envelope, Part};
 use wire::types::Kind;
 
-fn digits(rt: &HostRuntime, bytes: &[u8]) -> io::Result<()> {
-    for b in bytes {
-        print!(rt; "{b:02x}")?;
-    }
-    Ok(())
-}
-
 fn labelled(rt: &HostRuntime, label: &str, bytes: &[u8]) -> io::Result<()> {
-    print!(rt; " {label} ")?;
-    digits(rt, bytes)
+    let digits = Digits { bytes };
+    print!(rt; " {label} {digits}")
 }
 
 fn part(rt: &HostRuntime, label: &str, part: Part) -> io::Result<()> {

@@ -1,8 +1,10 @@
-use Rattle.std.proofs.Common.{◌≡◌, ◌*◌, map, take, vec_items}
-use Rattle.std.specs.Int.Digits.{number_from_digits}
-use Rattle.keyhash.specs.Numeral.{numeral}
-use Rattle.hexadecimal.specs.Hex.{hex_value}
+use Rattle.std.proofs.Common.{◌≡◌, ◌++◌, length, vec_items}
+use Rattle.std.specs.Option.{option_map}
+use Rattle.hexadecimal.specs.Hex.{hex_bytes}
 use Rattle.hexadecimal.proofs.decode.Given as goal
 
-abbrev pub invariant-loop-i : goal.invariant-loop-i
-invariant-loop-i l = vec_items l.out ≡ numeral 256 l.i (number_from_digits 16 (take (2 * l.i) (map hex_value l.hex)))
+abbrev pub invariant-loop-high : goal.invariant-loop-high
+invariant-loop-high l = hex_bytes l.fn.hex ≡ option_map (λ bytes. vec_items l.out ++ bytes) (hex_bytes l.rest)
+
+abbrev pub decreases-loop-high : goal.decreases-loop-high
+decreases-loop-high l = length l.rest

@@ -1,5 +1,4 @@
 use Rattle.std.proofs.Common.{sym, refl}
-use Rattle.tables.specs.Kept.{kept}
 use Rattle.tables.specs.Place.{named}
 use Rattle.guard.proofs.listing.unlist.Goals as goal
 use Rattle.guard.proofs.Ruled.{not_there, there, removed_after}
@@ -10,5 +9,5 @@ returns-then-not-lists g c = record { answer = not_there _ (sym c.if-not-lists.e
 pub returns : goal.returns
 returns g c = record {
   answer = there _ c.if-not-lists.ensures;
-  after = removed_after (named g.T.Record.key g.T.Record.equal c.args.key.now) (kept c.args.table.now) _ c.remove.ensures.after;
+  after = removed_after (named g.T.Record.key g.T.Record.equal c.args.key.now) (c.args.table.now) _ c.remove.ensures.after;
 }

@@ -1,10 +1,7 @@
-use Rattle.std.proofs.Common.{arith, rules}
+use Rattle.std.proofs.Common.{rules}
 use Rattle.keyhash.specs.Base64.{digit_of}
-use Rattle.keyhash.proofs.Texts.{map_more, map_all}
+use Rattle.keyhash.proofs.Made.{map_made}
 use Rattle.keyhash.proofs.base64.digits_of.Goals as goal
 
-pub loop-i-preserved : goal.loop-i-preserved
-loop-i-preserved c = (search rules, map_more digit_of c.args.chars c.loop-i.out c.loop-i.i _ (omega arith) (omega arith) c.digit_of.ensures c.loop-i.invariant.1)
-
 pub returns : goal.returns
-returns c = map_all digit_of c.args.chars c.loop-i.out c.loop-i.i (omega arith) (omega arith) c.loop-i.invariant.1
+returns c = map_made digit_of c.args.chars c.from_fn.ensures.items (search rules) (λ i y f' called. search rules)

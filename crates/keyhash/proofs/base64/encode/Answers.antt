@@ -1,18 +1,23 @@
-use Rattle.std.proofs.Common.{◌≡◌, ℕ, ◌<◌, [], ◌∷◌, ◌++◌, map, length, get_or, take, refl, ap, ◌∙◌, w8, Fits, rules}
+use Rattle.std.proofs.Common.{◌≡◌, ℕ, ◌<◌, ◌++◌, [], ◌∷◌, map, length, get_or, take, sym, ap, ◌∙◌, w8, Fits, rules, arith}
 use Rattle.std.proofs.ByRecursion.{All-from_get_or}
-use Rattle.std.proofs.lemmas.List.{take-map}
+use Rattle.std.proofs.lemmas.List.{length-take-le, take-map}
 use Rattle.keyhash.specs.Base64.{character, text, reading}
 use Rattle.keyhash.proofs.Texts.{text_canonical}
 use Rattle.keyhash.proofs.base64.encode.Goals as goal
 
-pub returns : goal.returns
+pub slice_bounds-padded-end-2 : goal.slice_bounds-padded-end-2
+slice_bounds-padded-end-2 c = sym (length-take-le 27 c.characters.result (omega arith))
+
+pub padded-requires : goal.padded-requires
+padded-requires c = (search rules, (let front = length-take-le 27 c.characters.result (omega arith) in omega (arith, front)))
+
+pub returns-clause-canonical_text : goal.returns-clause-canonical_text
 unfolding text
-returns c =
-    let front : take 27 c.characters_of-chars.result ≡ map character (take 27 c.cut.result) = ap (take 27) c.characters_of-chars.ensures ∙ take-map character 27 c.cut.result in
-    let is : c.copy_from_slice.new.self ++ 61 ∷ [] ≡ text c.args.hash = ap (λ xs. xs ++ 61 ∷ []) (c.copy_from_slice.ensures.after ∙ front ∙ ap (map character) c.cut.ensures.digits) in
+returns-clause-canonical_text c =
+    let filled : c.padded.result ≡ take 27 c.characters.result ++ 61 ∷ [] = (let front = length-take-le 27 c.characters.result (omega arith) in search rules) in
+    filled ∙ ap (λ chars. chars ++ 61 ∷ []) (ap (take 27) c.characters.ensures ∙ take-map character 27 c.of_hash.result.places ∙ ap (map character) c.of_hash.ensures)
+
+pub returns-clause-reads_back : goal.returns-clause-reads_back
+returns-clause-reads_back c =
     let bytes : (k : ℕ) → k < length c.args.hash → get_or c.args.hash k 0 < 256 = λ k l. let f : Fits w8 (get_or c.args.hash k 0) = search rules in f.fits in
-    record {
-      canonical_text = is;
-      reads_back = ap reading is ∙ text_canonical.written_text_reads_back c.args.hash (search rules, All-from_get_or (λ d. d < 256) c.args.hash 0 bytes);
-      alphabet_of_rfc_4648 = refl;
-    }
+    ap reading (returns-clause-canonical_text c) ∙ text_canonical.written_text_reads_back c.args.hash (search rules, All-from_get_or (λ d. d < 256) c.args.hash 0 bytes)

@@ -1,37 +1,53 @@
-use Rattle.std.proofs.Common.{◌<◌, ◌++◌, length, vec_items, sym, ap, ◌∙◌, subst, arith}
-use Rattle.std.proofs.lemmas.List.{append-nil}
-use Rattle.account.specs.Accounts.{tally}
-use Rattle.statement.specs.Lines.{lines_of}
-use Rattle.script.specs.Plays.{shown, tallied}
-use Rattle.script.proofs.Played.{some_left, none_left, shown_more, tallied_more}
-use Rattle.statement.proofs.Words.{after_shorter}
+use Rattle.std.proofs.Common.{◌≡◌, ℕ, ◌+◌, List, [], ◌∷◌, map, eqb, sym, ap, ◌∙◌, arith, rules, tests, Bor, Bool, false}
+use Rattle.std.specs.List.{flat_map, enumerate_from, slice_split}
+use Rattle.std.specs.Slice.Iter.{split_rest, split_done, split_callee, split_steps}
+use Rattle.std.specs.Iterator.Runs.{EachRunFrom, Run}
+use Rattle.std.specs.Iterator.Adapters.{enumerate_source, enumerate_count}
+use Rattle.std.specs.Fn.{CalledAt, Mut}
+use Rattle.std.proofs.lemmas.Iterator.{YieldsList}
+use Rattle.std.proofs.lemmas.List.{map-append}
+use Rattle.std.proofs.lemmas.Iterator.Splits.{YieldsList-from_slice_split}
+use Rattle.std.proofs.lemmas.Iterator.Consumers.{YieldsList-from_enumerate, YieldsList-end}
+use Rattle.std.proofs.lemmas.Grind.{common_steps}
+use Rattle.account.specs.Accounts.{empty}
+use Rattle.script.specs.Plays.{reply_to_line, shown_reply, noted_reply, tallied}
+use Rattle.script.proofs.Lines.{parts, shown_parts, tallied_parts, shown_numbered, unnumbered, tallied_more}
 use Rattle.script.proofs.play.play.Goals as goal
 
-pub loop-rest-smaller : goal.loop-rest-smaller
-loop-rest-smaller c =
-    let some = some_left c.loop-rest.rest.now c.loop-rest-test.ensures in
-    subst (λ xs. length xs < length c.loop-rest.rest.now) (sym c.split_once.ensures.after_the_first) (after_shorter c.loop-rest.rest.now some)
-
-pub loop-rest-preserved : goal.loop-rest-preserved
-loop-rest-preserved c =
-    let some = some_left c.loop-rest.rest.now c.loop-rest-test.ensures in
-    let cut-Line = c.split_once.ensures.before_the_first in
-    let cut-next = c.split_once.ensures.after_the_first in
-    let answered = c.in_ok-answer.ensures in
-    let shorter = after_shorter c.loop-rest.rest.now some in
-    let same = ap length cut-next in (
-      omega (arith, shorter, same, c.loop-rest.invariant.0),
-      shown_more c.loop-rest.rest.now some c.loop-rest.number _ _ _ _ _ cut-Line cut-next answered.printed c.loop-rest.invariant.1,
-      tallied_more c.loop-rest.rest.now some _ _ _ _ _ cut-Line cut-next answered.noted c.loop-rest.invariant.2,
+pub loop-i-preserved : goal.loop-i-preserved
+loop-i-preserved c =
+    let shown = c.in_ok-answer.ensures.printed in
+    let noted = c.in_ok-answer.ensures.noted in
+    let more = map-append {A = ℕ × Bor (List ℕ)} {B = ℕ × List ℕ} (λ p. (p.0, p.1.now)) c.loop-i.yielded ((c.in-Some.i, c.in-Some.text) ∷ []) in
+    let again = map-append {A = ℕ × List ℕ} {B = List ℕ} (λ p. p.1) (map (λ p. (p.0, p.1.now)) c.loop-i.yielded) ((c.in-Some.i, c.in-Some.text.now) ∷ []) in (
+      rw more (grind (arith, common_steps)),
+      rw (more, again) (noted ∙ ap (λ t. noted_reply t (reply_to_line c.in-Some.text.now)) c.loop-i.invariant.1 ∙ sym (tallied_more empty (map (λ p. p.1) (map (λ p. (p.0, p.1.now)) c.loop-i.yielded)) c.in-Some.text.now)),
     )
 
-pub returns : goal.returns
-returns c =
-    let none = none_left c.loop-rest.rest.now c.loop-rest-test.ensures in
-    record {
-      one_line_for_each_statement =
-          sym (append-nil (vec_items c.loop-rest.session.output))
-          ∙ ap (λ xs. vec_items c.loop-rest.session.output ++ shown c.loop-rest.number (lines_of xs)) (sym none)
-          ∙ c.loop-rest.invariant.1;
-      each_answer_noted = ap (λ xs. tallied (tally c.loop-rest.session.account) (lines_of xs)) (sym none) ∙ c.loop-rest.invariant.2;
-    }
+-- the slice that `split` cuts, where its clause names the closure
+from_split : {A F : Type 0} {s : _} {g : Mut F (Bor A × Unit {0}) Bool} {P : Run (split_steps g) → Type 0} (runs : EachRunFrom (split_steps g) s P) (p : A → Bool) {f : F} (xs : List A) → split_rest s ≡ xs → split_done s ≡ false → split_callee s ≡ f
+    → ((x : A) (b : Bool) (q : F) → CalledAt g f x b q → (q ≡ f) × (b ≡ p x)) → YieldsList (split_steps g) (λ x. x.now) s (slice_split p xs)
+from_split runs p xs = YieldsList-from_slice_split _ p xs
+
+-- what the loop went over
+gone_over : (c : goal.In-None) → map (λ p. (p.0, p.1.now)) c.loop-i.yielded ≡ enumerate_from 0 (parts c.args.input.now)
+gone_over c =
+    let cut = from_split c.split.ensures.runs (λ b. eqb b 10) c.args.input.now c.split.ensures.rest c.split.ensures.done c.split.ensures.closure (λ x b q k. search (rules, tests)) in
+    let same = c.into_iter-i-iterator.ensures.into_iter_gives in
+    let source = ap enumerate_source same ∙ c.enumerate-i-items.ensures.source in
+    let numbered = YieldsList-from_enumerate {s = c.into_iter-i-iterator.result} (rw (sym source) at cut) (ap enumerate_count same ∙ c.enumerate-i-items.ensures.count) in
+    (YieldsList-end numbered c.loop-i.yielded _ c.loop-i.yielded_by _ _ c.in-None.is c.next.ensures.steps).0
+
+pub returns-clause-one_line_for_each_statement : goal.returns-clause-one_line_for_each_statement
+returns-clause-one_line_for_each_statement c =
+    c.loop-i.invariant.0
+    ∙ ap (λ ps. flat_map {X = ℕ × List ℕ} (λ p. shown_reply (p.0 + 1) (reply_to_line p.1)) ps) (gone_over c)
+    ∙ shown_numbered 0 (parts c.args.input.now)
+    ∙ shown_parts c.args.input.now
+
+pub returns-clause-each_answer_noted : goal.returns-clause-each_answer_noted
+returns-clause-each_answer_noted c =
+    c.loop-i.invariant.1
+    ∙ ap (λ ps. tallied empty (map {A = ℕ × List ℕ} (λ p. p.1) ps)) (gone_over c)
+    ∙ ap (tallied empty) (unnumbered 0 (parts c.args.input.now))
+    ∙ tallied_parts empty c.args.input.now

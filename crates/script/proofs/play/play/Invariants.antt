@@ -1,14 +1,10 @@
-use Rattle.std.proofs.Common.{◌≡◌, ◌+◌, ◌≤◌, ◌++◌, length, vec_items}
-use Rattle.account.specs.Accounts.{tally}
-use Rattle.statement.specs.Lines.{lines_of}
-use Rattle.script.specs.Plays.{shown, tallied, transcript, account_of}
+use Rattle.std.proofs.Common.{◌≡◌, ℕ, ◌+◌, List, map, vec_items}
+use Rattle.std.specs.List.{flat_map}
+use Rattle.account.specs.Accounts.{empty}
+use Rattle.script.specs.Plays.{reply_to_line, shown_reply, tallied}
 use Rattle.script.proofs.play.play.Given as goal
 
-abbrev pub invariant-loop-rest : goal.invariant-loop-rest
-invariant-loop-rest l =
-    (l.number + length l.rest ≤ length l.input + 1)
-    × (vec_items l.session.output ++ shown l.number (lines_of l.rest) ≡ transcript l.input)
-    × (tallied (tally l.session.account) (lines_of l.rest) ≡ account_of l.input)
-
-abbrev pub decreases-loop-rest : goal.decreases-loop-rest
-decreases-loop-rest l = length l.rest
+abbrev pub invariant-loop-i : goal.invariant-loop-i
+invariant-loop-i l =
+    (vec_items l.session.output ≡ flat_map {X = ℕ × List ℕ} (λ p. shown_reply (p.0 + 1) (reply_to_line p.1)) (map (λ p. (p.0, p.1.now)) l.yielded))
+    × (l.session.account ≡ tallied empty (map {A = ℕ × List ℕ} (λ p. p.1) (map (λ p. (p.0, p.1.now)) l.yielded)))

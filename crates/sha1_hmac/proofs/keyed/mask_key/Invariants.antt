@@ -1,6 +1,7 @@
-use Rattle.std.proofs.Common.{◌≡◌, length}
-use Rattle.sha1_hmac.proofs.Masks.{masked_to}
+use Rattle.std.proofs.Common.{◌≡◌, map, ◌++◌, take, drop}
+use lib.Bits.{bit_xor}
 use Rattle.sha1_hmac.proofs.keyed.mask_key.Given as goal
 
-abbrev pub invariant-loop-i : goal.invariant-loop-i
-invariant-loop-i l = (length l.block ≡ 64) × (l.block ≡ masked_to l.mask l.key l.i)
+abbrev pub invariant-loop-byte : goal.invariant-loop-byte
+invariant-loop-byte l =
+    l.byte-items ≡ map (λ b. bit_xor b l.mask) (take l.byte-index l.initial.byte-items) ++ drop l.byte-index l.initial.byte-items

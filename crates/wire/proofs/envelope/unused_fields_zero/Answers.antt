@@ -4,4 +4,4 @@ use Rattle.wire.proofs.envelope.unused_fields_zero.Goals as goal
 
 pub returns-in-Unmarked : goal.returns-in-Unmarked
 unfolding signer
-returns-in-Unmarked c = search rules
+returns-in-Unmarked c = let e = c.eq.ensures in search rules

@@ -1,8 +1,7 @@
-use Rattle.std.proofs.Common.{add-zero, arith}
+use Rattle.std.proofs.Common.{rules}
 use Rattle.wire.specs.Envelope.{number_at}
-use Rattle.wire.proofs.Bytes.{take-reads}
 use Rattle.wire.proofs.fields.u16_at.Goals as goal
 
 pub returns : goal.returns
 unfolding number_at
-returns c = let e = take-reads 2 0 c.args.at c.args.bytes.now c.args.at (omega arith) c.requires in simp (e, add-zero) (omega arith)
+returns c = search rules

@@ -1,11 +1,8 @@
-use Rattle.std.proofs.Common.{◌≡◌, ◌++◌, length, sym, ◌∙◌, ap₂, rules}
-use Rattle.std.proofs.lemmas.Slice.Eq.{bytes_eq-Decides}
-use Rattle.std.proofs.lemmas.Bool.Decides.{Decides-and, Decides-at, Decides-like}
-use Rattle.records.specs.Records.{scope_bytes}
+use Rattle.std.proofs.Common.{◌&&◌, ap₂, ◌∙◌, rules}
+use Rattle.std.specs.Str.{bytes_eq}
+use Rattle.std.proofs.lemmas.Bool.Decides.{Decides-at}
 use Rattle.records.specs.Equality.{same_entry}
-use Rattle.records.specs.Equal.{same_scope_bytes_decides}
-use Rattle.records.specs.RecordLaws.{same_parts}
-use Rattle.records.proofs.Whole.{entry_bytes_are}
+use Rattle.records.specs.Equal.{window_and_scope, tested_twice, same_entry_bytes_decides}
 use Rattle.records.proofs.entry.EntryRecord.has_key.Goals as goal
 
 pub returns : goal.returns
@@ -13,11 +10,5 @@ unfolding same_entry
 returns c =
     let a = c.args.self.now in
     let b = c.args.sought.now in
-    let lengths : length a.subject ≡ length b.subject = search rules in
-    record {
-      same = search rules;
-      yes_exactly_where_all_bytes_are_equal = Decides-like _
-          (λ h. sym (entry_bytes_are a) ∙ ap₂ (λ s t. s ++ t) h.0 h.1 ∙ entry_bytes_are b)
-          (λ e. same_parts a.subject (scope_bytes a.scope) b.subject (scope_bytes b.scope) lengths (entry_bytes_are a ∙ e ∙ sym (entry_bytes_are b)))
-          (Decides-and _ _ (Decides-at _ _ c.has_key.ensures (bytes_eq-Decides a.subject b.subject)) (same_scope_bytes_decides a.scope b.scope c.is_same.result c.is_same.ensures.windows_fit c.is_same.ensures.same));
-    }
+    let same = ap₂ (λ x y. x && y) c.same_window.ensures.same c.eq.ensures ∙ tested_twice _ (bytes_eq a.subject b.subject) _ (window_and_scope a.scope b.scope) in
+    record { same = same; yes_exactly_where_all_bytes_are_equal = Decides-at _ _ same (same_entry_bytes_decides a b (search rules) c.same_window.ensures.fits) }

@@ -7,9 +7,9 @@ pub returns-then-bytes-ne-LENGTH : goal.returns-then-bytes-ne-LENGTH
 unfolding certificate_in
 returns-then-bytes-ne-LENGTH c = record { as_defined = search rules; reading_and_writing_are_inverse = certificates_inverse }
 
-pub returns-in_err-scope : goal.returns-in_err-scope
+pub returns-in_err-read : goal.returns-in_err-read
 unfolding certificate_in
-returns-in_err-scope c = record { as_defined = search rules; reading_and_writing_are_inverse = certificates_inverse }
+returns-in_err-read c = record { as_defined = search rules; reading_and_writing_are_inverse = certificates_inverse }
 
 pub returns : goal.returns
 unfolding certificate_in

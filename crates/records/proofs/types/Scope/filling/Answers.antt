@@ -1,5 +1,5 @@
 use Rattle.std.proofs.Common.{◌≡◌, length, arith, rules}
-use Rattle.records.proofs.Parts.{rest_behind}
+use Rattle.records.proofs.Cuts.{rest_behind}
 use Rattle.records.proofs.types.Scope.filling.Goals as goal
 
 pub returns : goal.returns

@@ -6,10 +6,14 @@ pub returns-then-bytes-ne-LENGTH : goal.returns-then-bytes-ne-LENGTH
 unfolding scope_in
 returns-then-bytes-ne-LENGTH c = search rules
 
-pub returns-then-not-sound : goal.returns-then-not-sound
+pub returns-in_err-scope : goal.returns-in_err-scope
 unfolding scope_in
-returns-then-not-sound c = search rules
+returns-in_err-scope c = search rules
 
-pub returns : goal.returns
+pub returns-then-is_sound : goal.returns-then-is_sound
 unfolding scope_in
-returns c = search rules
+returns-then-is_sound c = search rules
+
+pub returns-else-is_sound : goal.returns-else-is_sound
+unfolding scope_in
+returns-else-is_sound c = search rules

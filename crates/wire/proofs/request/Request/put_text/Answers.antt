@@ -1,5 +1,8 @@
-use Rattle.std.proofs.Common.{◌≡◌, ◌++◌, length, drop, sym, ap, ◌∙◌, arith}
-use Rattle.wire.specs.Writing.{text_length, signed_text_of}
+use Rattle.std.proofs.Common.{◌≡◌, length, drop, sym, refl, ap, ◌∙◌, arith, rules}
+use Rattle.std.proofs.lemmas.List.{drop-drop}
+use Rattle.records.specs.Records.{big_endian}
+use Rattle.records.specs.Numbers.{eight_bytes_are_big_endian, four_bytes_are_big_endian}
+use Rattle.wire.specs.Writing.{text_length, front_bytes, signed_text_of}
 use Rattle.wire.specs.Requests.{fields_of}
 use Rattle.wire.proofs.Filling.{five_parts}
 use Rattle.wire.proofs.Written.{unused_of}
@@ -9,26 +12,23 @@ pub returns : goal.returns
 unfolding signed_text_of
 returns c =
     let f = fields_of c.args.self.now in
-    let e = c.put.result in
-    let long : length c.key_hash.result ≡ 20 = omega arith in
-    let end : c.put.result ≡ text_length (fields_of c.args.self.now) = omega arith in
-    let text : c.front.result ++ (c.eight_bytes.result ++ (c.four_bytes.result ++ (c.key_hash.result ++ f.arguments))) ≡ signed_text_of c.args.width f =
-    (let e₁ = c.front.ensures.bytes in let e₂ = c.eight_bytes.ensures.bytes in let e₃ = c.four_bytes.ensures.bytes in let e₄ = c.key_number.ensures in let e₅ = c.sequence_number.ensures in let e₆ = c.key_hash.ensures in cc) in
+    let long : length c.key_hash.result ≡ 20 = search rules in
+    let key = c.to_be_bytes.ensures ∙ eight_bytes_are_big_endian c.key_number.result ∙ ap (big_endian 8) c.key_number.ensures in
+    let number = c.to_be_bytes-2.ensures ∙ four_bytes_are_big_endian c.sequence_number.result ∙ ap (big_endian 4) c.sequence_number.ensures in
+    let rest : c.split_at_mut-arguments.result.1.now ≡ drop (text_length (fields_of c.args.self.now)) c.args.out.now =
+    c.split_at_mut-arguments.ensures.back
+    ∙ ap (drop (length f.arguments)) (c.split_at_mut-signer.ensures.back ∙ ap (drop 20) (c.split_at_mut-sequence_number.ensures.back ∙ ap (drop 4) (c.split_at_mut-key_number.ensures.back ∙ ap (drop 8) c.split_at_mut-front.ensures.back)))
+    ∙ simp drop-drop (ap (λ n. drop n c.args.out.now) (omega arith)) in
     record {
-      length = end;
+      length = refl;
       buffer =
-          five_parts c.args.out.now c.put-key_number.new.out c.put-sequence_number.new.out c.put-signer.new.out c.put-arguments.new.out c.put.new.out
-          c.front.result c.eight_bytes.result c.four_bytes.result c.key_hash.result f.arguments
-          c.put-key_number.result c.put-sequence_number.result c.put-signer.result c.put-arguments.result e
-          c.put-key_number.ensures.front c.put-sequence_number.ensures.front c.put-signer.ensures.front c.put-arguments.ensures.front c.put.ensures.front
-          (c.put.ensures.back e (omega arith)) (c.put-arguments.ensures.back e (omega arith)) (c.put-signer.ensures.back e (omega arith)) (c.put-sequence_number.ensures.back e (omega arith)) (c.put-key_number.ensures.back e (omega arith))
-          ∙ ap (λ t. t ++ drop e c.args.out.now) text
-          ∙ ap (λ n. signed_text_of c.args.width f ++ drop n c.args.out.now) end;
+          rw (c.copy_from_slice.ensures.after, c.copy_from_slice-2.ensures.after, c.copy_from_slice-3.ensures.after, c.copy_from_slice-4.ensures.after, c.copy_from_slice-5.ensures.after, c.front.ensures.bytes, key, number, c.key_hash.ensures, rest)
+          (five_parts (front_bytes c.args.width f) (big_endian 8 f.key_number) (big_endian 4 f.sequence_number) f.signer f.arguments (drop (text_length f) c.args.out.now));
       fields_fit = record {
         action = c.front.ensures.action_fits;
         control = c.front.ensures.control_fits;
-        key = omega arith;
-        sequence = omega arith;
+        key = rw (sym c.key_number.ensures) (search rules);
+        sequence = rw (sym c.sequence_number.ensures) (search rules);
         hash = ap length (sym c.key_hash.ensures) ∙ long;
         room = c.requires.lengths_fit;
         unused = unused_of c.args.self.now;
