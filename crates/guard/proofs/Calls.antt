@@ -7,9 +7,9 @@ use Rattle.wire.specs.declared.types.Kind.{Kind}
 use Rattle.sessions.specs.Opened.{used_at, with_last}
 use Rattle.std.specs.List.{position}
 use Rattle.parties.specs.Commands.{Command}
-use Rattle.actions.specs.Arguments.{Arguments, Arguments.take_ownership, Arguments.set_session_keys, Arguments.expire_session_keys, Arguments.grant_ownership, Arguments.revoke_ownership, Arguments.add_entry, Arguments.delete_entry, Arguments.cache_certificate, Arguments.factory_security_reset, Arguments.perform}
+use Rattle.actions.specs.Arguments.{Arguments}
 use Rattle.machine.specs.Lists.{first_of, with_first}
-use Rattle.machine.specs.Requests.{Meaning, Delivery, Signed, signed_from, presented, reading_in, reading, kind_asked}
+use Rattle.machine.specs.Requests.{Delivery, Presented, Signed, signed_from, presented, reading_in, reading, kind_asked}
 use Rattle.machine.specs.Machine.{State, Answer, accepted, is_accepted, is_consumed, passing, by_session, signs, largest, screened_by_session, screened_by_key, screened, decided, base_after, number_used, owners_after, entries_after, certificates_after, sessions_after, command_asked, done_after, last_after}
 use Rattle.machine.specs.History.{Making}
 use Rattle.machine.specs.Law.{start}
@@ -17,7 +17,7 @@ use Rattle.machine.proofs.Judging.{passed, screened_facts}
 use Rattle.machine.proofs.Lawfulness.{lawful_always}
 use Rattle.requests.specs.Received.{Received, with_signed, received_in}
 use Rattle.guard.specs.declared.types.Guard.{Guard}
-use Rattle.guard.specs.View.{view, alone, delivery, presenting, taken_of, taken_as, taken, Acted}
+use Rattle.guard.specs.View.{view, alone, opened_as, taken_of, taken_as, taken, Acted}
 use Rattle.guard.specs.Call.{Stepped, Begins}
 use Rattle.guard.proofs.Finding.{used_is_with_first, length-with_first}
 use Rattle.guard.proofs.Steps.{SameTables, same_decision}
@@ -52,38 +52,38 @@ read_of p q asked (Ok a) e =
 
 -- ## One delivery
 
-module _ (g : Guard) (n : ℕ) (l : Option Command) (bytes : List ℕ) (control clock : ℕ) (ms mp : Meaning) (verdict : Command → Bool) where
+module _ (g : Guard) (n : ℕ) (l : Option Command) (d : Delivery) (verdict : Command → Bool) where
   abbrev s : State
   s = view g n l
 
-  abbrev d : Delivery
-  d = delivery bytes control clock ms mp
+  abbrev bytes : List ℕ
+  bytes = d.envelope
 
   abbrev y : Bool
   y = taken verdict d
 
-  pub refused_unread : (why : Refusal) → Err why ≡ received_in ms.width mp.width bytes → (r : Answer) → r ≡ Err why → Stepped s d y r s
-  refused_unread why e r a = subst (λ z. Stepped s d y z s) (sym a) (unread s d y why (not_read ms.width mp.width bytes why e))
+  pub refused_unread : (why : Refusal) → Err why ≡ received_in d.session.width d.public.width bytes → (r : Answer) → r ≡ Err why → Stepped s d y r s
+  refused_unread why e r a = subst (λ z. Stepped s d y z s) (sym a) (unread s d y why (not_read d.session.width d.public.width bytes why e))
 
-  module _ (q : Signed) (asked : Arguments) (kind : Kind) (read : Ok (record { signed = q; asked = asked }) ≡ received_in ms.width mp.width bytes) (is : kind ≡ kind_asked asked) where
+  module _ (q : Signed) (asked : Arguments) (kind : Kind) (read : Ok (record { signed = q; asked = asked }) ≡ received_in d.session.width d.public.width bytes) (is : kind ≡ kind_asked asked) where
     reads : reading d ≡ Ok asked
-    reads = (read_of (signed_from bytes) q asked (reading_in ms.width mp.width bytes) read).0
+    reads = (read_of (signed_from bytes) q asked (reading_in d.session.width d.public.width bytes) read).0
 
     signed : q ≡ signed_from bytes
-    signed = (read_of (signed_from bytes) q asked (reading_in ms.width mp.width bytes) read).1
+    signed = (read_of (signed_from bytes) q asked (reading_in d.session.width d.public.width bytes) read).1
 
-    -- screening reads neither the clock nor the service
-    same_screen : (p : Signed) (k : Kind) → screened (alone g) (presenting p control 0 ms mp) k ≡ screened s (presenting p control clock ms mp) k
+    -- screening does not read the service
+    same_screen : (p : Presented) (k : Kind) → screened (alone g) p k ≡ screened s p k
     unfolding screened
     same_screen p k = refl
 
-    screen_is : screened (alone g) (presenting q control 0 ms mp) kind ≡ screened s (presented d) (kind_asked asked)
-    screen_is = same_screen q kind ∙ (ap (λ z. screened s (presenting z control clock ms mp) kind) signed ∙ ap (screened s (presented d)) is)
+    screen_is : screened (alone g) (opened_as q d) kind ≡ screened s (presented d) (kind_asked asked)
+    screen_is = same_screen (opened_as q d) kind ∙ (ap (λ z. screened s (opened_as z d) kind) signed ∙ ap (screened s (presented d)) is)
 
-    pub refused_screened : (why : Refusal) → Err why ≡ screened (alone g) (presenting q control 0 ms mp) kind → (r : Answer) → r ≡ Err why → Stepped s d y r s
+    pub refused_screened : (why : Refusal) → Err why ≡ screened (alone g) (opened_as q d) kind → (r : Answer) → r ≡ Err why → Stepped s d y r s
     refused_screened why e r a = subst (λ z. Stepped s d y z s) (sym a) (screened_out s d y asked reads why (sym (e ∙ screen_is)))
 
-    module _ (pass : accepted ≡ screened (alone g) (presenting q control 0 ms mp) kind) where
+    module _ (pass : accepted ≡ screened (alone g) (opened_as q d) kind) where
       passes : accepted ≡ screened s (presented d) (kind_asked asked)
       passes = pass ∙ screen_is
 
@@ -143,35 +143,21 @@ module _ (g : Guard) (n : ℕ) (l : Option Command) (bytes : List ℕ) (control 
           sessions = ap length sessions_used_now ∙ length-used (by_session (kind_asked asked));
         }
 
-        -- a decision does not read the control number
-        no_control : (u : State) (p : Signed) (b : Bool) (a : Arguments) → decided u (presenting p 0 clock ms mp) b a ≡ decided u (presenting p control clock ms mp) b a
-        no_control u p b (take_ownership proof) = refl
-        no_control u p b (set_session_keys key) = refl
-        no_control u p b expire_session_keys = refl
-        no_control u p b (grant_ownership hash) = refl
-        no_control u p b (revoke_ownership hash) = refl
-        no_control u p b (add_entry entry) = refl
-        no_control u p b (delete_entry entry) = refl
-        no_control u p b (cache_certificate certificate bytes' tag) = refl
-        no_control u p b factory_security_reset = refl
-        no_control u p b (perform name payload) = refl
-
-        taken_is : taken_of verdict (command_asked clock asked) ≡ y
+        taken_is : taken_of verdict (command_asked d.clock asked) ≡ y
         taken_is = sym (ap (taken_as verdict d) reads)
 
         pub delivered : (g2 : Guard) (r : Answer) (n2 : ℕ) (l2 : Option Command)
-            → r ≡ decided (alone g1) (presenting q 0 clock ms mp) (taken_of verdict (command_asked clock asked)) asked
+            → r ≡ decided (alone g1) (opened_as q d) (taken_of verdict (command_asked d.clock asked)) asked
             → Acted q asked r g1 g2
-            → n2 ≡ cond (is_accepted r) (done_after (command_asked clock asked) n) n
-            → l2 ≡ cond (is_accepted r) (last_after (command_asked clock asked) l) l
+            → n2 ≡ cond (is_accepted r) (done_after (command_asked d.clock asked) n) n
+            → l2 ≡ cond (is_accepted r) (last_after (command_asked d.clock asked) l) l
             → Stepped s d y r (view g2 n2 l2)
         delivered g2 r n2 l2 decision acted done last =
             decided_on s d y asked reads r (view g2 n2 l2) passes
             (decision
-            ∙ (no_control (alone g1) q (taken_of verdict (command_asked clock asked)) asked
-            ∙ (ap (λ z. decided (alone g1) (presenting z control clock ms mp) (taken_of verdict (command_asked clock asked)) asked) signed
-            ∙ (same_decision s (alone g1) tables_same (presented d) (taken_of verdict (command_asked clock asked)) asked
-            ∙ ap (λ z. decided s (presented d) z asked) taken_is))))
+            ∙ (ap (λ z. decided (alone g1) (opened_as z d) (taken_of verdict (command_asked d.clock asked)) asked) signed
+            ∙ (same_decision s (alone g1) tables_same (presented d) (taken_of verdict (command_asked d.clock asked)) asked
+            ∙ ap (λ z. decided s (presented d) z asked) taken_is)))
             (acted.device ∙ kept-rest.0)
             (acted.password ∙ kept-rest.1)
             (acted.base ∙ base_raised)

@@ -6,6 +6,7 @@ use Rattle.actions.specs.Arguments.{Arguments}
 use Rattle.machine.specs.Requests.{Meaning, Delivery, Presented, Signed, reading}
 use Rattle.machine.specs.Machine.{State, Answer, is_accepted, owners_after, entries_after, certificates_after, sessions_after, command_asked}
 use Rattle.guard.specs.declared.types.Guard.{Guard}
+use Rattle.guard.specs.declared.types.Delivery as declared
 
 abbrev pub view : Guard → ℕ → Option Command → State
 view g done last = record {
@@ -32,6 +33,15 @@ delivery bytes control clock session public = record { envelope = bytes; control
 
 abbrev pub presenting : Signed → ℕ → ℕ → Meaning → Meaning → Presented
 presenting signed control clock session public = record { signed = signed; control = control; clock = clock; session = session; public = public }
+
+-- what is brought to a guard as the machine's delivery, by what its verifiers mean
+abbrev pub brought : {V P : Type 0} → ℕ → (V → List ℕ → List ℕ → List ℕ → Bool) → ℕ → (P → List ℕ → List ℕ → List ℕ → Bool) → declared.Delivery V P → Delivery
+brought session_width session_stands public_width public_stands d =
+    delivery d.envelope.now d.control d.clock (meaning session_width (session_stands d.session.now)) (meaning public_width (public_stands d.public.now))
+
+-- a delivery with its envelope opened as this
+abbrev pub opened_as : Signed → Delivery → Presented
+opened_as signed d = presenting signed d.control d.clock d.session d.public
 
 -- the service's yes or no to the command that a delivery asks for; no where it asks for none
 abbrev pub taken_of : (Command → Bool) → Option Command → Bool

@@ -6,11 +6,11 @@ ghost use Rattle.actions.specs.Views.{saying};
 ghost use Rattle.machine.specs.Delegation.{is_owner, authorised};
 ghost use Rattle.machine.specs.Machine.{accepted, is_accepted, passing, decided, command_asked, done_after, last_after, tables_of};
 ghost use Rattle.requests.specs.Received.{signed_by};
-ghost use Rattle.guard.specs.View.{alone, meaning, presenting, taken_of, Acted};
+ghost use Rattle.guard.specs.View.{alone, brought, opened_as, taken_of, Acted};
 
 use crate::owning::{add_entry, delete_entry, grant, require_owner, revoke, take_ownership};
 use crate::signing::{cache, expire_session, open_session};
-use crate::types::Guard;
+use crate::types::{Delivery, Guard};
 use actions::types::Arguments;
 use delegation::is_authorised;
 use parties::command::CommandView;
@@ -73,17 +73,15 @@ impl Guard {
     pub(crate) fn act<V: Verifier, P: Verifier, S: Service>(
         &mut self,
         request: &Request,
-        clock: u64,
-        session: &V,
-        public: &P,
+        delivery: &Delivery<V, P>,
         service: &mut S,
     ) -> Result<(), Refusal>
-        ensures answer { result ≡ decided (alone self.old) (presenting (signed_by request.now) 0 clock (meaning V.Verifier.width (V.Verifier.stands session.now)) (meaning P.Verifier.width (P.Verifier.stands public.now))) (taken_of (S.Service.verdict service.old) (command_asked clock (saying request.now.arguments))) (saying request.now.arguments) }
+        ensures answer { result ≡ decided (alone self.old) (opened_as (signed_by request.now) (brought V.Verifier.width V.Verifier.stands P.Verifier.width P.Verifier.stands delivery.now)) (taken_of (S.Service.verdict service.old) (command_asked delivery.now.clock (saying request.now.arguments))) (saying request.now.arguments) }
         ensures tables { Acted (signed_by request.now) (saying request.now.arguments) result self.old self.new }
-        ensures done { S.Service.done service.new ≡ (if is_accepted result then done_after (command_asked clock (saying request.now.arguments)) (S.Service.done service.old) else S.Service.done service.old) }
-        ensures last { S.Service.last service.new ≡ (if is_accepted result then last_after (command_asked clock (saying request.now.arguments)) (S.Service.last service.old) else S.Service.last service.old) }
+        ensures done { S.Service.done service.new ≡ (if is_accepted result then done_after (command_asked delivery.now.clock (saying request.now.arguments)) (S.Service.done service.old) else S.Service.done service.old) }
+        ensures last { S.Service.last service.new ≡ (if is_accepted result then last_after (command_asked delivery.now.clock (saying request.now.arguments)) (S.Service.last service.old) else S.Service.last service.old) }
         ensures untouched { is_accepted result ≡ false → service.new ≡ service.old }
-        ensures idle { command_asked clock (saying request.now.arguments) ≡ None → service.new ≡ service.old }
+        ensures idle { command_asked delivery.now.clock (saying request.now.arguments) ≡ None → service.new ≡ service.old }
     {
         let signer = &request.signer;
         match request.arguments {
@@ -93,7 +91,7 @@ impl Guard {
                 request.key_number,
                 signer,
                 proof,
-                session,
+                delivery.session,
             ),
             Arguments::SetSessionKeys { key } => open_session(&mut self.sessions, request, key),
             Arguments::ExpireSessionKeys => {
@@ -118,11 +116,11 @@ impl Guard {
                 certificate,
                 bytes,
                 issuer_tag,
-                public,
+                delivery.public,
             ),
             Arguments::FactorySecurityReset => self.reset(signer),
             Arguments::Perform { name, payload } => {
-                self.perform(signer, name, payload, clock, service)
+                self.perform(signer, name, payload, delivery.clock, service)
             }
         }
     }

@@ -2,11 +2,11 @@
 ghost use Rattle.std.specs.Prelude.{◌≡◌, ℕ, false, Option};
 ghost use Rattle.parties.specs.Commands.{Command};
 ghost use Rattle.machine.specs.Machine.{is_accepted};
-ghost use Rattle.guard.specs.View.{view, meaning, delivery, taken};
+ghost use Rattle.guard.specs.View.{view, brought, taken};
 ghost use Rattle.guard.specs.Call.{Stepped, LawfulOn, Begins};
 
 use crate::screening::kind_asked;
-use crate::types::Guard;
+use crate::types::{Delivery, Guard};
 use parties::service::Service;
 use parties::verifier::Verifier;
 use records::{Certificate, Entry, Scope};
@@ -47,25 +47,20 @@ impl Guard {
         }
     }
 
-    // Delivers a request: an envelope, the control number of the URL that it came to, a reading of the clock, the two
-    // verifiers, and the service.
+    // Answers a delivery, and has the service do what it asks for where it is accepted.
     pub fn deliver<V: Verifier, P: Verifier, S: Service>(
         &mut self,
-        envelope: &[u8],
-        control: u16,
-        clock: u64,
-        session: &V,
-        public: &P,
+        delivery: &Delivery<V, P>,
         service: &mut S,
     ) -> Result<(), Refusal>
-        ensures is_the_machines_step { Stepped (view self.old (S.Service.done service.old) (S.Service.last service.old)) (delivery envelope.now control clock (meaning V.Verifier.width (V.Verifier.stands session.now)) (meaning P.Verifier.width (P.Verifier.stands public.now))) (taken (S.Service.verdict service.old) (delivery envelope.now control clock (meaning V.Verifier.width (V.Verifier.stands session.now)) (meaning P.Verifier.width (P.Verifier.stands public.now)))) result (view self.new (S.Service.done service.new) (S.Service.last service.new)) }
-        ensures lawful_after_every_history { LawfulOn (view self.old (S.Service.done service.old) (S.Service.last service.old)) (delivery envelope.now control clock (meaning V.Verifier.width (V.Verifier.stands session.now)) (meaning P.Verifier.width (P.Verifier.stands public.now))) (taken (S.Service.verdict service.old) (delivery envelope.now control clock (meaning V.Verifier.width (V.Verifier.stands session.now)) (meaning P.Verifier.width (P.Verifier.stands public.now)))) result (view self.new (S.Service.done service.new) (S.Service.last service.new)) }
+        ensures is_the_machines_step { Stepped (view self.old (S.Service.done service.old) (S.Service.last service.old)) (brought V.Verifier.width V.Verifier.stands P.Verifier.width P.Verifier.stands delivery.now) (taken (S.Service.verdict service.old) (brought V.Verifier.width V.Verifier.stands P.Verifier.width P.Verifier.stands delivery.now)) result (view self.new (S.Service.done service.new) (S.Service.last service.new)) }
+        ensures lawful_after_every_history { LawfulOn (view self.old (S.Service.done service.old) (S.Service.last service.old)) (brought V.Verifier.width V.Verifier.stands P.Verifier.width P.Verifier.stands delivery.now) (taken (S.Service.verdict service.old) (brought V.Verifier.width V.Verifier.stands P.Verifier.width P.Verifier.stands delivery.now)) result (view self.new (S.Service.done service.new) (S.Service.last service.new)) }
         ensures refusal_leaves_the_service_untouched { is_accepted result ≡ false → service.new ≡ service.old }
     {
-        let request = receive::<V, P>(envelope)?;
+        let request = receive::<V, P>(delivery.envelope)?;
         let kind = kind_asked(&request.arguments);
-        let place = self.screen(&request, kind, control, session, public)?;
+        let place = self.screen(&request, kind, delivery)?;
         self.consume(place, request.number);
-        self.act(&request, clock, session, public, service)
+        self.act(&request, delivery, service)
     }
 }

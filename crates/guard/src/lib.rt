@@ -9,4 +9,4 @@ mod screening;
 mod signing;
 mod types;
 
-pub use types::Guard;
+pub use types::{Delivery, Guard};

@@ -6,10 +6,10 @@ ghost use Rattle.actions.specs.Views.{saying};
 ghost use Rattle.machine.specs.Requests.{kind_asked};
 ghost use Rattle.machine.specs.Machine.{accepted, by_session, signs, largest, screened};
 ghost use Rattle.requests.specs.Received.{signed_by};
-ghost use Rattle.guard.specs.View.{alone, meaning, presenting, unplaced};
+ghost use Rattle.guard.specs.View.{alone, brought, opened_as, unplaced};
 
 use crate::signing::{screen_key, screen_session};
-use crate::types::Guard;
+use crate::types::{Delivery, Guard};
 use actions::types::Arguments;
 use parties::verifier::Verifier;
 use refusal::Refusal;
@@ -40,23 +40,21 @@ impl Guard {
         &self,
         request: &Request,
         kind: Kind,
-        control: u16,
-        session: &V,
-        public: &P,
+        delivery: &Delivery<V, P>,
     ) -> Result<Option<usize>, Refusal>
-        ensures answer { unplaced result ≡ screened (alone self.now) (presenting (signed_by request.now) control 0 (meaning V.Verifier.width (V.Verifier.stands session.now)) (meaning P.Verifier.width (P.Verifier.stands public.now))) kind }
+        ensures answer { unplaced result ≡ screened (alone self.now) (opened_as (signed_by request.now) (brought V.Verifier.width V.Verifier.stands P.Verifier.width P.Verifier.stands delivery.now)) kind }
         ensures place { IfOk result (λ place. MatchOption place (by_session kind ≡ false) (λ i. (by_session kind ≡ true) × (position (signs (signed_by request.now)) self.now.sessions ≡ Some i))) }
     {
-        if request.control_number != control {
+        if request.control_number != delivery.control {
             return Err(Refusal::OtherControlNumber);
         }
         if request.kind != kind {
             return Err(Refusal::WrongKind);
         }
         match kind {
-            Kind::Session => Ok(Some(screen_session(&self.sessions, request, session)?)),
+            Kind::Session => Ok(Some(screen_session(&self.sessions, request, delivery.session)?)),
             Kind::Unmarked | Kind::PublicKey => {
-                screen_key(self.base, request, public)?;
+                screen_key(self.base, request, delivery.public)?;
                 Ok(None)
             }
         }

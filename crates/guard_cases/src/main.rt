@@ -3,7 +3,7 @@
 #![tactic(auto)]
 
 use anyhow::Context;
-use guard::Guard;
+use guard::{Delivery, Guard};
 use parties::hmac_verifier::HmacVerifier;
 use parties::relay_panel::RelayPanel;
 use parties::service::Service;
@@ -23,14 +23,14 @@ fn answer(
     let bytes = hexadecimal::bytes_named(heap, digits.as_bytes())?.context(
         "not hexadecimal digits",
     )?;
-    let delivered = guard.deliver(
-        bytes.as_slice(),
-        CONTROL,
-        CLOCK,
-        &HmacVerifier,
-        &HmacVerifier,
-        panel,
-    );
+    let delivery = Delivery {
+        envelope: bytes.as_slice(),
+        control: CONTROL,
+        clock: CLOCK,
+        session: &HmacVerifier,
+        public: &HmacVerifier,
+    };
+    let delivered = guard.deliver(&delivery, panel);
     Ok(match delivered {
         Ok(()) => format!(in heap; "0")?,
         Err(why) => format!(in heap; "{why}")?,
