@@ -14,7 +14,7 @@ use records::Certificate;
 
 impl Question<'_> {
     // Whether the certificate names the issuer of the one that it is to stand before, and has its flag. As the last one it is
-    // to name the signer.
+    // to name the signer. The two certificates are no pair: in a walk the one before becomes the next.
     fn is_named(&self, link: &Certificate, next: Option<&Certificate>) -> bool
         ensures { result ≡ names self.now (option_copied next.entry) link.now }
     {

@@ -17,6 +17,7 @@ use requests::Request;
 use sessions::{Session, SessionName, Sessions};
 use tables::Table;
 
+// Not by `From`: neither type is of this crate.
 fn session_name(request: &Request) -> SessionName
     ensures { result ≡ record { id = request.now.key_number; signer = request.now.signer } }
 {

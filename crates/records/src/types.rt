@@ -1,7 +1,8 @@
 // Entries and certificates, and the scope that both carry.
 
 // What an entry or a certificate allows: whether it may be passed on, when it applies, and to which names.
-// The term is the first `term_length` bytes of `term`; zeros fill the rest.
+// The term is the first `term_length` bytes of `term`; zeros fill the rest. An array with a length, as it is on the wire and in fixed
+// memory: a record has no heap, and is `Copy`.
 #[derive(Clone, Copy, PartialEq, Eq)]
 pub struct Scope {
     pub delegate: bool,

@@ -52,7 +52,8 @@ impl RoundFunction for Majority {
     }
 }
 
-// One round over the working variables.
+// One round over the working variables. They go from round to round by value beside the words, as in the standard: a struct of both
+// would be taken apart and made anew in each function.
 fn one_round<F: RoundFunction>(s: [u32; 5], k: u32, w: u32) -> [u32; 5]
     ensures { result ≡ round F.gives k w s }
 {

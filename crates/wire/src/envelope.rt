@@ -6,6 +6,7 @@ ghost use Rattle.wire.specs.Header.{placed, header_of, header_in};
 ghost use Rattle.wire.specs.Views.{part as part_of, header as headerFrom, answered};
 
 use crate::fields::{array_at, u16_at, u32_at, u64_at};
+use crate::header::Header;
 use crate::layout::*;
 use crate::types::{Kind, TagLengths};
 use parties::verifier::Verifier;
@@ -32,56 +33,14 @@ pub struct Envelope<'a> {
     tag: Part<'a>,
 }
 
-// Whether the arguments follow the header, the tag of `width` bytes follows them, and nothing follows the tag.
-fn places_agree(bytes: &[u8], kind: Kind, width: usize) -> bool
-    requires { header_length kind ≤ length bytes.now }
-    ensures { result ≡ places_agree width kind bytes.now }
-{
-    let total = usize::from(u16_at(bytes, TOTAL_LENGTH));
-    let arguments = usize::from(u16_at(bytes, ARGUMENTS_OFFSET));
-    let arguments_end = arguments + usize::from(u16_at(bytes, ARGUMENTS_LENGTH));
-    let tag = usize::from(u16_at(bytes, TAG_OFFSET));
-    let tag_length = usize::from(u16_at(bytes, TAG_LENGTH));
-    ((total == bytes.len()) & (arguments == header_length(kind)))
-        & (((tag == arguments_end) & (tag + tag_length == total)) & (tag_length == width))
-}
-
-// What stands in place of a signer's hash where no one signs.
-const NO_SIGNER: [u8; 20] = [0; 20];
-
-// Whether the fields that the kind has no use for are zero.
-fn unused_fields_zero(bytes: &[u8], kind: Kind) -> bool
-    requires { header_length kind ≤ length bytes.now }
-    ensures { result ≡ unused_fields_zero kind bytes.now }
-{
-    match kind {
-        Kind::Unmarked => {
-            ((u64_at(bytes, KEY_NUMBER) == 0) & (u32_at(bytes, SEQUENCE_NUMBER) == 0))
-                & (array_at(bytes, SIGNER) == NO_SIGNER)
-        }
-        Kind::Session => true,
-        Kind::PublicKey => u32_at(bytes, SEQUENCE_NUMBER) == 0,
-    }
-}
-
-// Whether the header of an envelope of this kind is well formed, where its tag has `width` bytes.
-fn is_sound(bytes: &[u8], kind: Kind, width: usize) -> bool
-    ensures { result ≡ sound_of_kind width kind bytes.now }
-{
-    if bytes.len() < header_length(kind) {
-        return false;
-    }
-    places_agree(bytes, kind, width) & unused_fields_zero(bytes, kind)
-}
-
 // Cuts an envelope into its parts, once they are known to lie within it.
-fn opened<'a>(bytes: &'a [u8], kind: Kind) -> Envelope<'a>
-    requires of_kind { kind_in bytes.now ≡ kind }
-    requires header_within { header_length kind ≤ length bytes.now }
-    requires arguments_within { arguments_place bytes.now + arguments_length bytes.now ≤ length bytes.now }
-    requires tag_within { tag_place bytes.now + tag_length bytes.now ≤ length bytes.now }
-    ensures { headerFrom result ≡ header_of bytes.now }
+fn opened<'a>(header: &Header<'a>) -> Envelope<'a>
+    requires of_kind { kind_in header.now.bytes.now ≡ header.now.kind }
+    requires arguments_within { arguments_place header.now.bytes.now + arguments_length header.now.bytes.now ≤ length header.now.bytes.now }
+    requires tag_within { tag_place header.now.bytes.now + tag_length header.now.bytes.now ≤ length header.now.bytes.now }
+    ensures { headerFrom result ≡ header_of header.now.bytes.now }
 {
+    let Header { kind, bytes } = *header;
     let arguments = usize::from(u16_at(bytes, ARGUMENTS_OFFSET));
     let arguments_length = usize::from(u16_at(bytes, ARGUMENTS_LENGTH));
     let tag = usize::from(u16_at(bytes, TAG_OFFSET));
@@ -126,10 +85,9 @@ fn read_with<'a>(bytes: &'a [u8], lengths: TagLengths) -> Result<Envelope<'a>, R
     ensures parts_lie_as_laid_out { sound_header lengths.session lengths.public bytes.now ≡ true → PartsLie lengths.session lengths.public bytes.now }
 {
     let kind = kind_in(bytes).ok_or(Refusal::Malformed)?;
-    if !is_sound(bytes, kind, lengths.for_kind(kind)) {
-        return Err(Refusal::Malformed);
-    }
-    Ok(opened(bytes, kind))
+    let width = lengths.for_kind(kind);
+    let header = Header::sound(bytes, kind, width).ok_or(Refusal::Malformed)?;
+    Ok(opened(&header))
 }
 
 impl<'a> Envelope<'a> {

@@ -2,7 +2,7 @@
 ghost use Rattle.std.specs.Prelude.{◌≡◌, ◌+◌, ◌≤◌, length, take, drop};
 ghost use Rattle.wire.specs.Envelope.{number_at};
 
-// The N bytes from `at` on.
+// The N bytes from `at` on. `records` has the same: one for both would be public, and a public function of a crate asks nothing of its callers.
 pub fn array_at<const N: usize>(bytes: &[u8], at: usize) -> [u8; N]
     requires { at + N ≤ length bytes.now }
     ensures { result ≡ take N (drop at bytes.now) }

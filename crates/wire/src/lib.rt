@@ -3,6 +3,7 @@
 
 pub mod envelope;
 mod fields;
+mod header;
 mod layout;
 pub mod request;
 pub mod types;

@@ -26,7 +26,7 @@ pub fn bytes_of(heap: Global, line: &str) -> anyhow::Result<Vec<u8>> {
     Ok(bytes)
 }
 
-// Who signs an envelope that says the same.
+// Who signs an envelope that says the same. Not by `From`: neither type is of this crate.
 fn signer_of(envelope: &Envelope) -> Signer {
     match envelope.kind() {
         Kind::Unmarked => Signer::Nobody,

@@ -17,6 +17,7 @@ fn part(rt: &HostRuntime, label: &str, part: Part) -> io::Result<()> {
     print!(rt; " {label} {offset}+{length}")
 }
 
+// Not by `Display`: the type is of another crate, and these words are of this program.
 fn kind(k: Kind) -> &'static str {
     match k {
         Kind::Unmarked => "unmarked",

@@ -1,6 +1,6 @@
 use Rattle.std.proofs.Common.{rules}
 use Rattle.wire.specs.Envelope.{signer}
-use Rattle.wire.proofs.envelope.unused_fields_zero.Goals as goal
+use Rattle.wire.proofs.header.Header.unused_fields_zero.Goals as goal
 
 pub returns-in-Unmarked : goal.returns-in-Unmarked
 unfolding signer
