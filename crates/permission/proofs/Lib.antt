@@ -1,6 +1,5 @@
 pub mod Fronts
 pub mod Found
-pub mod Texts
 pub mod Walks
 pub mod Verdicts
 pub mod Names

@@ -1,11 +1,14 @@
 -- The tests on names decide what names are and how they are ordered.
-use Rattle.std.proofs.Common.{ℕ, ◌≤◌, ◌&&◌, eqb, ltb, leb, List, [], ◌∷◌, ◌++◌, length, take, drop, Decides, sym, refl, ap, ◌∙◌}
+use Rattle.std.proofs.Common.{◌≡◌, ℕ, Bool, true, false, Some, not, arith, ◌≤◌, ◌&&◌, eqb, ltb, leb, List, [], ◌∷◌, ◌++◌, length, take, drop, Decides, sym, refl, ap, ◌∙◌}
 use Rattle.std.specs.List.{AllByRecursion}
+use Rattle.std.specs.Cmp.Lexicographic.{slice_partial_cmp}
+use Rattle.std.specs.Ordering.{is_le, is_gt, is_some_and, nat_cmp}
 use Rattle.std.specs.Str.{bytes_eq}
 use Rattle.std.proofs.lemmas.List.{take-append-drop, take_at}
 use Rattle.std.proofs.lemmas.Slice.Eq.{bytes_eq-Decides}
 use Rattle.std.proofs.lemmas.Bool.{false≢true, leb-true, le-leb}
-use Rattle.std.proofs.lemmas.Bool.Decides.{Decides-and, Decides-or, Decides-like, Decides-eqb, Decides-ltb}
+use Rattle.std.proofs.lemmas.Bool.Decides.{nat_tests, Decides-and, Decides-or, Decides-like, Decides-eqb, Decides-ltb}
+use Rattle.std.proofs.lemmas.Cmp.{same_from_slice_cmp_tested}
 use Rattle.std.proofs.ByRecursion.{Decides-by_and}
 use Rattle.permission.specs.Names.{Graphic, IsName, NotAfter, BeginsWith}
 use Rattle.permission.specs.Reading.{graphic, all_graphic, is_name, not_after}
@@ -27,6 +30,20 @@ is_name_decides bytes =
     (Decides-and (leb 1 (length bytes) && leb (length bytes) 16) (all_graphic bytes)
     (Decides-and (leb 1 (length bytes)) (leb (length bytes) 16) (leb_decides 1 (length bytes)) (leb_decides (length bytes) 16))
     (all_graphic_decides bytes))
+
+not-not : (b : Bool) → not (not b) ≡ b
+not-not true = refl
+not-not false = refl
+
+-- the order of slices is that of names
+module _ (xs ys : List ℕ) (answer : Bool) where
+  pub le_is_not_after : answer ≡ is_some_and is_le (slice_partial_cmp (λ x y. Some (nat_cmp x y)) xs ys) → answer ≡ not_after xs ys
+  le_is_not_after e = same_from_slice_cmp_tested nat_cmp is_le not_after refl (λ _ _. refl) (λ _ _. refl) (λ x y xs ys o h. grind (arith, nat_tests)) xs ys answer e
+
+  pub gt_is_after : answer ≡ is_some_and is_gt (slice_partial_cmp (λ x y. Some (nat_cmp x y)) xs ys) → not answer ≡ not_after xs ys
+  gt_is_after e =
+      ap not (same_from_slice_cmp_tested nat_cmp is_gt (λ xs ys. not (not_after xs ys)) refl (λ _ _. refl) (λ _ _. refl) (λ x y xs ys o h. grind (arith, nat_tests)) xs ys answer e)
+      ∙ not-not (not_after xs ys)
 
 pub not_after_decides : (xs ys : List ℕ) → Decides (not_after xs ys) (NotAfter xs ys)
 not_after_decides [] ys = (λ _. tt, λ _. refl)

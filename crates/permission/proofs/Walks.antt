@@ -1,6 +1,5 @@
 -- What stands at the front of bytes as a term or as members, by the tests that the walk makes.
-use Rattle.std.proofs.Common.{◌≡◌, ℕ, zero, suc, ◌-◌, ◌<◌, ◌≤◌, Bool, true, false, cond, ◌||◌, leb, List, [], ◌∷◌, length, get_or, Some, None, sym, refl, ap, ◌∙◌, ap₂, arith}
-use Rattle.std.proofs.lemmas.Bool.Decides.{nat_tests}
+use Rattle.std.proofs.Common.{◌≡◌, ℕ, zero, suc, ◌-◌, ◌<◌, Bool, true, false, cond, ◌||◌, leb, List, [], ◌∷◌, Some, None, sym, refl, ap, ◌∙◌, ap₂, arith}
 use Rattle.permission.specs.Terms.{Term, Term.set, Members, Members.none, Members.member}
 use Rattle.permission.specs.Reading.{Reading, then, covered, members_in, count_in, set_in, term_in, judged, any_judged}
 use Rattle.permission.proofs.Found.{nothing_is_not_something, same_found}
@@ -9,23 +8,6 @@ use Rattle.permission.proofs.Found.{nothing_is_not_something, same_found}
 set_judged : (name : List ℕ) (reading : Reading Members) → any_judged name reading ≡ judged name (then reading (λ ms. Some (set ms.0, ms.1)))
 set_judged name None = refl
 set_judged name (Some ms) = refl
-
--- a count that is read, and one that is not
-module _ (bs rest : List ℕ) (n : ℕ) (front : bs ≡ n ∷ rest) where
-  pub a_count : (deep : ℕ) → 0 < deep → n ≤ 8 → Some (n, rest) ≡ count_in deep bs
-  a_count zero some few = absurd (omega arith)
-  a_count (suc deep) some few = let t : leb n 8 ≡ true = grind (arith, nat_tests) in sym (ap (λ b. cond b (Some (n, rest)) None) t) ∙ sym (ap (count_in (suc deep)) front)
-
-  pub no_count : (deep : ℕ) → (0 < deep → n ≤ 8 → ⊥) → None ≡ count_in deep bs
-  no_count zero out = refl
-  no_count (suc deep) out =
-      let many : n ≤ 8 → ⊥ = out (omega arith) in
-      let t : leb n 8 ≡ false = grind (arith, nat_tests) in
-      sym (ap (λ b. cond b (Some (n, rest)) None) t) ∙ sym (ap (count_in (suc deep)) front)
-
-pub no_count_in_nothing : (deep : ℕ) → None ≡ count_in deep []
-no_count_in_nothing zero = refl
-no_count_in_nothing (suc deep) = refl
 
 -- a set is its count and that many members
 module _ (name : List ℕ) where
@@ -53,26 +35,9 @@ module _ (name : List ℕ) where
       go true e = absurd (nothing_is_not_something e)
       go false e = refl
 
-pub no_term : (name bs : List ℕ) (deep : ℕ) → (0 < length bs → (get_or bs 0 0 ≡ 1 → ⊥) × (get_or bs 0 0 ≡ 2 → ⊥) × (get_or bs 0 0 ≡ 3 → ⊥) × (get_or bs 0 0 ≡ 4 → ⊥) × (get_or bs 0 0 ≡ 5 → ⊥)) → None ≡ judged name (term_in deep bs)
-no_term name [] deep no-form = refl
-no_term name (form ∷ rest) deep no-form =
-    let no : (form ≡ 1 → ⊥) × (form ≡ 2 → ⊥) × (form ≡ 3 → ⊥) × (form ≡ 4 → ⊥) × (form ≡ 5 → ⊥) = no-form (omega arith) in
-    let not-1 = no.0 in
-    let not-2 = no.1 in
-    let not-3 = no.2 in
-    let not-4 = no.3 in
-    let not-5 = no.4 in
-    let none : term_in deep (form ∷ rest) ≡ None = grind (arith, nat_tests) in
-    sym (ap (judged name) none)
-
 -- what was found so far, or else what is still to come
 abbrev pub or_else : Bool → Reading Bool → Reading Bool
 or_else found others = then others (λ p. Some (found || p.0, p.1))
-
-found_in_turn : (found first : Bool) (others : Reading Bool) → or_else (found || first) others ≡ or_else found (or_else first others)
-found_in_turn found first None = refl
-found_in_turn true first (Some p) = refl
-found_in_turn false first (Some p) = refl
 
 or_nothing : (b : Bool) → (b || false) ≡ b
 or_nothing true = refl
@@ -103,20 +68,6 @@ module _ (one : List ℕ → Reading Term) (name : List ℕ) where
       go : (first : Reading Term) → None ≡ judged name first → None ≡ any_judged name (after_first (n - 1) first)
       go None e = refl
       go (Some p) e = absurd (nothing_is_not_something e)
-
-  pub members_after_first : (found first : Bool) (n : ℕ) (bs rest : List ℕ) → 0 < n → Some (first, rest) ≡ judged name (one bs) → members_left (found || first) (n - 1) rest ≡ members_left found n bs
-  unfolding after_first
-  members_after_first found first n bs rest some e =
-      found_in_turn found first (any_judged name (members_in one (n - 1) rest)) ∙ ap (or_else found) (go (one bs) e ∙ sym (ap (any_judged name) (members_by_first n bs some)))
-    where
-      joined : (term : Term) (others : Reading Members) → or_else (covered term name) (any_judged name others) ≡ any_judged name (then others (λ ms. Some (member term ms.0, ms.1)))
-      joined term None = refl
-      joined term (Some ms) = refl
-
-      go : (read : Reading Term) → Some (first, rest) ≡ judged name read → members_left first (n - 1) rest ≡ any_judged name (after_first (n - 1) read)
-      go None e = absurd (nothing_is_not_something (sym e))
-      go (Some p) e =
-          ap (λ (q : Bool × List ℕ). members_left q.0 (n - 1) q.1) (same_found e) ∙ joined p.0 (members_in one (n - 1) p.1)
 
 -- where the last member is a set, its members are what is left
 module _ (name : List ℕ) (deep : ℕ) (bs inner : List ℕ) (front : bs ≡ 5 ∷ inner) where

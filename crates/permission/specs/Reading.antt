@@ -1,5 +1,8 @@
 -- Reading a term from bytes, and judging a name by it, as computations.
+use denote.Bor.{Bor}
 use Rattle.std.specs.Prelude.{ℕ, zero, suc, Bool, true, false, cond, ◌&&◌, ◌||◌, List, [], ◌∷◌, length, take, drop, is_some, Some, None, Ok, Err, Option, Result, ◌==◌, nat_le, nat_lt}
+use Rattle.std.specs.Option.{option_map}
+use Rattle.std.specs.List.{list_all}
 use Rattle.std.specs.Str.{bytes_eq}
 use Rattle.refusal.specs.declared.Refusal.{Refusal}
 use Rattle.refusal.specs.declared.Refusal.TheVariants.{Malformed}
@@ -8,6 +11,10 @@ use Rattle.permission.specs.Terms.{Term, Term.all, Term.elt, Term.prefix, Term.r
 -- what stands at the front of some bytes, and the bytes after it; none where a rule is broken
 abbrev pub Reading : Type 0 → Type 0
 Reading X = Option (X × List ℕ)
+
+-- the reading that a walk over the bytes answers, which lends the bytes after it
+abbrev pub reading_of : {X : Type 0} → Option (X × Bor (List ℕ)) → Reading X
+reading_of found = option_map (λ p. (p.0, p.1.now)) found
 
 -- read on after what was read
 abbrev pub then : {X Y : Type 0} → Option X → (X → Option Y) → Option Y
@@ -18,8 +25,7 @@ abbrev pub graphic : ℕ → Bool
 graphic byte = nat_le 0x21 byte && nat_le byte 0x7E
 
 abbrev pub all_graphic : List ℕ → Bool
-all_graphic [] = true
-all_graphic (b ∷ bs) = graphic b && all_graphic bs
+all_graphic bytes = list_all graphic bytes
 
 abbrev pub is_name : List ℕ → Bool
 is_name name = (nat_le 1 (length name) && nat_le (length name) 16) && all_graphic name

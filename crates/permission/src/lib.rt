@@ -1,15 +1,14 @@
 // Permission terms: which names a term covers, decided over its bytes where they lie.
 #![tactic(auto)]
 
-ghost use Rattle.std.specs.Prelude.{◌≡◌, ◌||◌, length, take, Decides};
+ghost use Rattle.std.specs.Prelude.{◌≡◌, ◌&&◌, length, nat_le, Decides};
 ghost use Rattle.permission.specs.Answers.{SomeWellFormedTerm, Answers, OnlyAnswer, OneTermAtMost};
-ghost use Rattle.permission.specs.Reading.{graphic, all_graphic, is_name, text_in, name_in, not_after, elt_in, prefix_in, range_in, members_in, count_in, set_in, term_in, judged, any_judged, judged_whole, well_formed, covering};
+ghost use Rattle.permission.specs.Reading.{reading_of, all_graphic, is_name, text_in, name_in, not_after, elt_in, prefix_in, range_in, members_in, count_in, set_in, term_in, judged, any_judged, judged_whole, well_formed, covering};
 ghost use Rattle.std.specs.Option.{option_map};
-ghost use Rattle.std.specs.Str.{bytes_eq};
 
 use refusal::Refusal;
 
-// The form byte of a term, which decides what follows it.
+// The form byte of a term, which decides what follows it. Constants, and no enum: they stand in the patterns of slices, before what follows.
 const ALL: u8 = 0x01;
 
 const ELT: u8 = 0x02;
@@ -58,13 +57,13 @@ fn whole(term: &[u8], name: &[u8]) -> Option<bool>
     }
     // A row of one term: the walk is then one loop, in which only a set within a set costs a call.
     let (covers, rest) = members_in(term, name, MAX_DEPTH, 1)?;
-    if rest.len() == 0 { Some(covers) } else { None }
+    rest.is_empty().then_some(covers)
 }
 
 // The term at the front, with sets nested at most `deep`: whether it covers the name, and the bytes after it.
 #[cycle(members_in_set_in_term_in)]
 fn term_in<'a>(bytes: &'a [u8], name: &[u8], deep: u8) -> Option<(bool, &'a [u8])>
-    ensures { option_map (λ p. (p.0, p.1.now)) result ≡ judged name.now (term_in deep bytes.now) }
+    ensures { reading_of result ≡ judged name.now (term_in deep bytes.now) }
 {
     match bytes {
         [ALL, rest @ ..] => Some((true, rest)),
@@ -79,7 +78,7 @@ fn term_in<'a>(bytes: &'a [u8], name: &[u8], deep: u8) -> Option<(bool, &'a [u8]
 // What follows the form byte of a set: a count and that many terms, with sets nested one level less.
 #[cycle(members_in_set_in_term_in)]
 fn set_in<'a>(bytes: &'a [u8], name: &[u8], deep: u8) -> Option<(bool, &'a [u8])>
-    ensures { option_map (λ p. (p.0, p.1.now)) result ≡ judged name.now (set_in deep bytes.now) }
+    ensures { reading_of result ≡ judged name.now (set_in deep bytes.now) }
 {
     let (n, rest) = count_in(bytes, deep)?;
     members_in(rest, name, deep - 1, n)
@@ -87,22 +86,18 @@ fn set_in<'a>(bytes: &'a [u8], name: &[u8], deep: u8) -> Option<(bool, &'a [u8])
 
 // The count of a set's members, and the bytes from the first of them on; none where a set may not stand so deep.
 fn count_in<'a>(bytes: &'a [u8], deep: u8) -> Option<(u8, &'a [u8])>
-    ensures { option_map (λ p. (p.0, p.1.now)) result ≡ count_in deep bytes.now }
+    ensures { reading_of result ≡ count_in deep bytes.now }
 {
-    let [n, rest @ ..] = bytes else {
-        return None;
-    };
-    if deep == 0 || *n > MAX_MEMBERS {
-        return None;
-    }
-    Some((*n, rest))
+    let (n, rest) = bytes.split_first()?;
+    (deep > 0 && *n <= MAX_MEMBERS).then_some((*n, rest))
 }
 
 // The next `n` terms: whether any of them covers the name, and the bytes after them.
 #[cycle(members_in_set_in_term_in)]
 fn members_in<'a>(bytes: &'a [u8], name: &[u8], deep: u8, n: u8) -> Option<(bool, &'a [u8])>
-    ensures { option_map (λ p. (p.0, p.1.now)) result ≡ any_judged name.now (members_in (term_in deep) n bytes.now) }
+    ensures { reading_of result ≡ any_judged name.now (members_in (term_in deep) n bytes.now) }
 {
+    // No `for`: what is left changes where a set comes last.
     let mut any = false;
     let mut rest = bytes;
     let mut deep = deep;
@@ -114,71 +109,63 @@ fn members_in<'a>(bytes: &'a [u8], name: &[u8], deep: u8, n: u8) -> Option<(bool
                 let (count, members) = count_in(inner, deep)?;
                 deep -= 1;
                 left = count;
-                rest = &members[0..];
+                rest = members;
             }
             _ => {
                 let (covers, after) = term_in(rest, name, deep)?;
-                any = either(any, covers);
+                any |= covers;
                 left -= 1;
-                // Sliced anew it stays in registers; copied, it goes through memory, at twice the time for a walk.
-                rest = &after[0..];
+                rest = after;
             }
         }
     }
     Some((any, rest))
 }
 
-// A set covers what any of its members covers.
-fn either(one: bool, other: bool) -> bool
-    ensures { result ≡ (one || other) }
-{
-    one | other
-}
-
 // What follows the form byte of an elt: whether the name is its own, and the bytes after the term.
 fn elt_in<'a>(bytes: &'a [u8], name: &[u8]) -> Option<(bool, &'a [u8])>
-    ensures { option_map (λ p. (p.0, p.1.now)) result ≡ judged name.now (elt_in bytes.now) }
+    ensures { reading_of result ≡ judged name.now (elt_in bytes.now) }
 {
     let (own, after) = name_in(bytes)?;
-    Some((is_same(own, name), after))
+    Some((own == name, after))
 }
 
-// The same for a prefix, which may be empty.
+// The same for a prefix, which may be empty. One function for both would take the reader and the test as closures.
 fn prefix_in<'a>(bytes: &'a [u8], name: &[u8]) -> Option<(bool, &'a [u8])>
-    ensures { option_map (λ p. (p.0, p.1.now)) result ≡ judged name.now (prefix_in bytes.now) }
+    ensures { reading_of result ≡ judged name.now (prefix_in bytes.now) }
 {
     let (front, after) = text_in(bytes)?;
-    Some((begins_with(front, name), after))
+    Some((name.starts_with(front), after))
 }
 
 // The same for a range: low above high is malformed.
 fn range_in<'a>(bytes: &'a [u8], name: &[u8]) -> Option<(bool, &'a [u8])>
-    ensures { option_map (λ p. (p.0, p.1.now)) result ≡ judged name.now (range_in bytes.now) }
+    ensures { reading_of result ≡ judged name.now (range_in bytes.now) }
 {
     let (low, rest) = name_in(bytes)?;
     let (high, after) = name_in(rest)?;
-    if !not_after(low, high) {
+    if low > high {
         return None;
     }
-    Some((not_after(low, name) & not_after(name, high), after))
+    Some((is_between(low, name, high), after))
+}
+
+// The order of names is by byte, and a name comes before its own extensions.
+#[tactic(auto, using(crate::proofs::Names::le_is_not_after))]
+fn is_between(low: &[u8], name: &[u8], high: &[u8]) -> bool
+    ensures { result ≡ (not_after low.now name.now && not_after name.now high.now) }
+{
+    low <= name && name <= high
 }
 
 // A length byte and that many bytes of text, and what follows.
+#[tactic(auto, unfolding(crate::specs::Reading::text_in))]
 fn text_in<'a>(bytes: &'a [u8]) -> Option<(&'a [u8], &'a [u8])>
     ensures { option_map (λ p. (p.0.now, p.1.now)) result ≡ text_in bytes.now }
 {
-    let [n, rest @ ..] = bytes else {
-        return None;
-    };
-    let n = *n as usize;
-    if n > MAX_TEXT || n > rest.len() {
-        return None;
-    }
-    let (text, after) = rest.split_at(n);
-    if !all_graphic(text) {
-        return None;
-    }
-    Some((text, after))
+    let (n, rest) = bytes.split_first()?;
+    let (text, after) = rest.split_at_checked(usize::from(*n))?;
+    is_text(text).then_some((text, after))
 }
 
 // A text that is not empty, and what follows.
@@ -186,53 +173,25 @@ fn name_in<'a>(bytes: &'a [u8]) -> Option<(&'a [u8], &'a [u8])>
     ensures { option_map (λ p. (p.0.now, p.1.now)) result ≡ name_in bytes.now }
 {
     let (name, after) = text_in(bytes)?;
-    if name.len() == 0 {
-        return None;
-    }
-    Some((name, after))
+    (!name.is_empty()).then_some((name, after))
 }
 
 // Whether the bytes are a name.
 pub fn is_name(bytes: &[u8]) -> bool
     ensures as_defined { result ≡ is_name bytes.now }
 {
-    let n = bytes.len();
-    n >= 1 && n <= MAX_TEXT && all_graphic(bytes)
+    !bytes.is_empty() && is_text(bytes)
+}
+
+// A text: at most 16 bytes that a name may hold.
+fn is_text(bytes: &[u8]) -> bool
+    ensures { result ≡ (nat_le (length bytes.now) 16 && all_graphic bytes.now) }
+{
+    bytes.len() <= MAX_TEXT && all_graphic(bytes)
 }
 
 fn all_graphic(bytes: &[u8]) -> bool
     ensures { result ≡ all_graphic bytes.now }
 {
-    // With no early exit the bytes are tested several at a time.
-    let mut all = true;
-    for byte in bytes {
-        all &= is_graphic(*byte);
-    }
-    all
-}
-
-// A byte that names may hold.
-fn is_graphic(byte: u8) -> bool
-    ensures { result ≡ graphic byte }
-{
-    matches!(byte, 0x21..=0x7E)
-}
-
-fn is_same(own: &[u8], name: &[u8]) -> bool
-    ensures { result ≡ bytes_eq own.now name.now }
-{
-    own == name
-}
-
-fn begins_with(front: &[u8], name: &[u8]) -> bool
-    ensures { result ≡ bytes_eq front.now (take (length front.now) name.now) }
-{
-    name.starts_with(front)
-}
-
-// The order of names: by byte, and a name before its own extensions.
-fn not_after(name: &[u8], other: &[u8]) -> bool
-    ensures { result ≡ not_after name.now other.now }
-{
-    name <= other
+    bytes.iter().all(|byte| byte.is_ascii_graphic())
 }
