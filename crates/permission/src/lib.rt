@@ -61,6 +61,7 @@ fn whole(term: &[u8], name: &[u8]) -> Option<bool>
 }
 
 // The term at the front, with sets nested at most `deep`: whether it covers the name, and the bytes after it.
+// What is left and the name are no struct: each step would make it anew, since only what is left changes.
 #[cycle(members_in_set_in_term_in)]
 fn term_in<'a>(bytes: &'a [u8], name: &[u8], deep: u8) -> Option<(bool, &'a [u8])>
     ensures { reading_of result ≡ judged name.now (term_in deep bytes.now) }
