@@ -1,5 +1,6 @@
 // What owners do: take, grant and revoke ownership, and keep entries. Functions over the tables that they need: as methods they
-// would borrow the whole guard, to change one table while another is read.
+// would borrow the whole guard, to change one table while another is read. Granting asks the table that it changes, adding another: no
+// one function for both borrows it twice.
 ghost use Rattle.std.specs.Prelude.{◌≡◌, ◌+◌, ◌≤◌, not, ◌&&◌, [], ◌∷◌, ◌++◌, length, take, if◌then◌else◌, ◌==◌};
 ghost use Rattle.std.specs.Str.{bytes_eq};
 ghost use Rattle.refusal.specs.declared.Refusal.TheVariants.{NotAuthorised, RevokesItself, NotListed};

@@ -1,4 +1,5 @@
-// Entries and certificates, and the scope that both carry.
+// Entries and certificates, and the scope that both carry. What is alike in them is the scope; one type for both, of one hash or of
+// three, would have numbers where these have names.
 
 // What an entry or a certificate allows: whether it may be passed on, when it applies, and to which names.
 // The term is the first `term_length` bytes of `term`; zeros fill the rest. An array with a length, as it is on the wire and in fixed
