@@ -35,6 +35,7 @@ fn key_in<'a>(bytes: &'a [u8]) -> Result<Arguments<'a>, Refusal>
 }
 
 // A certificate and a tag of the public verifier.
+#[tactic(auto, unfolding(crate::specs::Arguments::caching_in))]
 fn certificate_in<'a>(bytes: &'a [u8], lengths: TagLengths) -> Result<Arguments<'a>, Refusal>
     ensures { answered result ≡ caching_in lengths.public bytes.now }
 {
@@ -58,6 +59,7 @@ fn caching<'a>(bytes: &'a [u8], issuer_tag: &'a [u8]) -> Result<Arguments<'a>, R
 }
 
 // The length of a name, the name, and a payload.
+#[tactic(auto, unfolding(crate::specs::Arguments::perform_in))]
 fn command_in<'a>(bytes: &'a [u8]) -> Result<Arguments<'a>, Refusal>
     ensures { answered result ≡ perform_in bytes.now }
 {

@@ -1,6 +1,6 @@
 -- Bytes as hexadecimal digits, two for each byte.
-use Rattle.std.specs.Prelude.{ℕ, ◌+◌, ◌-◌, ◌*◌, ◌/◌, ◌%◌, cond, ◌&&◌, List, [], ◌∷◌, Some, None, codes, Option, nat_le, nat_lt}
-use Rattle.std.specs.List.{flat_map}
+use Rattle.std.specs.Prelude.{ℕ, Bool, ◌+◌, ◌-◌, ◌*◌, ◌/◌, ◌%◌, cond, ◌&&◌, List, [], ◌∷◌, Some, None, codes, Option, nat_le, nat_lt}
+use Rattle.std.specs.List.{flat_map, list_all}
 use Rattle.std.specs.Option.{option_map}
 use Rattle.std.specs.Str.{bytes_eq}
 
@@ -11,6 +11,10 @@ hex_character v = cond (nat_lt v 10) (v + 48) (v + 87)
 -- the number of a digit, in either case; 16 where it is none
 abbrev pub hex_value : ℕ → ℕ
 hex_value c = cond (nat_le 48 c && nat_le c 57) (c - 48) (cond (nat_le 97 c && nat_le c 102) (c - 87) (cond (nat_le 65 c && nat_le c 70) (c - 55) 16))
+
+-- whether each of some characters is a digit
+abbrev pub all_hex : List ℕ → Bool
+all_hex hex = list_all (λ c. nat_lt (hex_value c) 16) hex
 
 -- the two digits of a byte
 abbrev pub two_digits : ℕ → List ℕ

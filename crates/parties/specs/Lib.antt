@@ -6,3 +6,4 @@ pub mod Outboxes
 pub mod Sendable
 pub mod SetTargets
 pub mod ZeroFilled
+pub mod Verdicts

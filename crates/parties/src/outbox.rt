@@ -2,7 +2,8 @@ ghost use Rattle.std.specs.Prelude.{◌≡◌, ◌+◌, false, [], ◌∷◌, �
 ghost use Rattle.parties.specs.Commands.{viewed, Untouched, limit};
 ghost use Rattle.parties.specs.Waiting.{is_sendable};
 ghost use Rattle.parties.specs.Outboxes.{waiting, oldest, outbox_last, outbox_verdict};
-ghost use Rattle.std.proofs.lemmas.Bool.{and_parts, and_left, le-ltb};
+ghost use Rattle.std.proofs.lemmas.Bool.{and_parts};
+ghost use Rattle.parties.specs.Verdicts.{nothing_is_taken_past_the_limit, what_is_taken_passes_both};
 ghost use Rattle.parties.specs.Sendable.{sendable_is_well_sized};
 
 use crate::command::{CommandView, NotTaken};
@@ -57,11 +58,11 @@ impl Service for Outbox {
 
     ghost verdict = { outbox_verdict };
 
-    ghost nothing_is_taken_at_the_limit = { λ o _ full. and_left (nat_lt o.log.done limit) _ (le-ltb o.log.done limit full) };
+    ghost nothing_is_taken_at_the_limit = { λ o _ full. nothing_is_taken_past_the_limit o.log.done _ full };
 
     ghost what_is_taken_is_well_sized = { λ o c taken.
         sendable_is_well_sized c
-        (and_parts (nat_lt (length (waiting o)) 16) (is_sendable c.name c.payload) (and_parts (nat_lt o.log.done limit) _ taken).1).1 };
+        (and_parts (nat_lt (length (waiting o)) 16) (is_sendable c.name c.payload) (what_is_taken_passes_both (nat_lt o.log.done limit) _ taken).1).1 };
 
     fn perform(&mut self, command: CommandView<'_>) -> Result<(), NotTaken>
         ensures answers_the_verdict { is_ok result ≡ outbox_verdict self.old (viewed command.entry) }

@@ -1,5 +1,5 @@
 ghost use Rattle.std.specs.Prelude.{◌≡◌, ◌+◌, true, false, replicate, if◌then◌else◌, Some, None, MatchOption, nat_lt, is_ok};
-ghost use Rattle.std.proofs.lemmas.Bool.{and_parts, and_left, le-ltb};
+ghost use Rattle.parties.specs.Verdicts.{nothing_is_taken_past_the_limit, what_is_taken_passes_both};
 ghost use Rattle.parties.specs.Commands.{viewed, Untouched, limit};
 ghost use Rattle.parties.specs.Relays.{is_set_target, panel_verdict, panel_last, switched, Requested};
 ghost use Rattle.parties.specs.SetTargets.{target_is_well_sized};
@@ -69,9 +69,9 @@ impl Service for RelayPanel {
 
     ghost verdict = { panel_verdict };
 
-    ghost nothing_is_taken_at_the_limit = { λ p _ full. and_left (nat_lt p.log.done limit) _ (le-ltb p.log.done limit full) };
+    ghost nothing_is_taken_at_the_limit = { λ p _ full. nothing_is_taken_past_the_limit p.log.done _ full };
 
-    ghost what_is_taken_is_well_sized = { λ p c taken. target_is_well_sized c (and_parts (nat_lt p.log.done limit) (is_set_target c.name c.payload) taken).1 };
+    ghost what_is_taken_is_well_sized = { λ p c taken. target_is_well_sized c (what_is_taken_passes_both (nat_lt p.log.done limit) (is_set_target c.name c.payload) taken).1 };
 
     fn perform(&mut self, command: CommandView<'_>) -> Result<(), NotTaken>
         ensures answers_the_verdict { is_ok result ≡ panel_verdict self.old (viewed command.entry) }

@@ -5,7 +5,7 @@ use Rattle.std.specs.Bool.{beq}
 use Rattle.std.specs.Str.{bytes_eq}
 use Rattle.std.proofs.lemmas.Slice.Eq.{bytes_eq-Decides}
 use Rattle.std.proofs.lemmas.Bool.{false≢true, true≢false}
-use Rattle.std.proofs.lemmas.Bool.Decides.{Decides-and, Decides-like, Decides-eqb}
+use Rattle.std.proofs.lemmas.Bool.Decides.{Decides-and, Decides-at, Decides-like, Decides-eqb}
 use Rattle.records.specs.declared.types.Scope.{Scope}
 use Rattle.records.specs.declared.types.Entry.{Entry}
 use Rattle.records.specs.declared.types.Certificate.{Certificate}
@@ -27,6 +27,9 @@ same_scope_decides a b =
     Decides-like (same_scope a b) (λ h. same_fields h.0 h.1.0 h.1.1.0 h.1.1.1.0 h.1.1.1.1)
     (λ e. (ap (λ (s : Scope). s.delegate) e, (ap (λ (s : Scope). s.not_before) e, (ap (λ (s : Scope). s.not_after) e, (ap (λ (s : Scope). s.term_length) e, ap (λ (s : Scope). s.term) e)))))
     (Decides-and _ _ (flags_decide a.delegate b.delegate) (Decides-and _ _ (Decides-eqb a.not_before b.not_before) (Decides-and _ _ (Decides-eqb a.not_after b.not_after) (Decides-and _ _ (Decides-eqb a.term_length b.term_length) (bytes_eq-Decides a.term b.term)))))
+
+pub same_scope_bytes_decides : (a b : Scope) (r : Bool) → WindowFits a × WindowFits b → r ≡ same_scope a b → Decides r (scope_bytes a ≡ scope_bytes b)
+same_scope_bytes_decides a b r fits is = Decides-like r (ap scope_bytes) (same_from_bytes a b fits.0 fits.1) (Decides-at r (same_scope a b) is (same_scope_decides a b))
 
 pub same_entry_decides : (a b : Entry) → Decides (same_entry a b) (a ≡ b)
 unfolding same_entry

@@ -54,6 +54,7 @@ impl Scope {
         })
     }
 
+    #[tactic(auto, unfolding(crate::specs::Records::scope_in))]
     pub(crate) fn read(bytes: &[u8]) -> Result<Scope, Refusal>
         ensures { result ≡ scope_in bytes.now }
     {

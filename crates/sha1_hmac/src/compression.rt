@@ -54,6 +54,7 @@ impl RoundFunction for Majority {
 
 // One round over the working variables. They go from round to round by value beside the words, as in the standard: a struct of both
 // would be taken apart and made anew in each function.
+#[tactic(auto, unfolding(crate::specs::Compression::round))]
 fn one_round<F: RoundFunction>(s: [u32; 5], k: u32, w: u32) -> [u32; 5]
     ensures { result ≡ round F.gives k w s }
 {
@@ -69,6 +70,7 @@ fn one_round<F: RoundFunction>(s: [u32; 5], k: u32, w: u32) -> [u32; 5]
 }
 
 // Four rounds with one function and one constant.
+#[tactic(auto, unfolding(crate::specs::Fours::four))]
 fn four_rounds<F: RoundFunction>(s: [u32; 5], k: u32, w: [u32; 4]) -> [u32; 5]
     ensures { result ≡ four F.gives k w s }
 {
@@ -97,6 +99,7 @@ struct Window {
 }
 
 // The word that follows from those 3, 8, 14 and 16 before it.
+#[tactic(auto, unfolding(crate::specs::Compression::mixed))]
 fn mixed(x: u32, y: u32, z: u32, v: u32) -> u32
     ensures { result ≡ mixed x y z v }
 {
@@ -118,6 +121,7 @@ impl Window {
     }
 
     // The sixteen words that begin four words on.
+    #[tactic(auto, unfolding(crate::specs::Fours::next_words, crate::specs::Fours::advanced))]
     fn advanced(self) -> Window
         ensures { result ≡ advanced self }
     {

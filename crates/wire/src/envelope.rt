@@ -34,6 +34,7 @@ pub struct Envelope<'a> {
 }
 
 // Cuts an envelope into its parts, once they are known to lie within it.
+#[tactic(auto, unfolding(crate::specs::Envelope::number_at, crate::specs::Envelope::kind_of, crate::specs::Envelope::signer, crate::specs::Envelope::arguments, crate::specs::Envelope::signed_text, crate::specs::Envelope::tag))]
 fn opened<'a>(header: &Header<'a>) -> Envelope<'a>
     requires of_kind { kind_in header.now.bytes.now ≡ header.now.kind }
     requires arguments_within { arguments_place header.now.bytes.now + arguments_length header.now.bytes.now ≤ length header.now.bytes.now }
@@ -69,6 +70,7 @@ fn part_of<'a>(bytes: &'a [u8], offset: usize, count: usize) -> Part<'a>
 }
 
 // The kind of an envelope, by its first byte.
+#[tactic(auto, unfolding(crate::specs::Envelope::kind_of))]
 fn kind_in(bytes: &[u8]) -> Option<Kind>
     ensures { result ≡ kind_of bytes.now }
 {

@@ -13,6 +13,7 @@ pub fn array_at<const N: usize>(bytes: &[u8], at: usize) -> [u8; N]
 }
 
 // A trait of the three widths would have these three lines as its impls.
+#[tactic(auto, unfolding(crate::specs::Envelope::number_at))]
 pub fn u16_at(bytes: &[u8], at: usize) -> u16
     requires { at + 2 ≤ length bytes.now }
     ensures { result ≡ number_at at 2 bytes.now }
@@ -20,6 +21,7 @@ pub fn u16_at(bytes: &[u8], at: usize) -> u16
     u16::from_be_bytes(array_at(bytes, at))
 }
 
+#[tactic(auto, unfolding(crate::specs::Envelope::number_at))]
 pub fn u32_at(bytes: &[u8], at: usize) -> u32
     requires { at + 4 ≤ length bytes.now }
     ensures { result ≡ number_at at 4 bytes.now }
@@ -27,6 +29,7 @@ pub fn u32_at(bytes: &[u8], at: usize) -> u32
     u32::from_be_bytes(array_at(bytes, at))
 }
 
+#[tactic(auto, unfolding(crate::specs::Envelope::number_at))]
 pub fn u64_at(bytes: &[u8], at: usize) -> u64
     requires { at + 8 ≤ length bytes.now }
     ensures { result ≡ number_at at 8 bytes.now }

@@ -1,11 +1,7 @@
 use Rattle.std.proofs.Common.{sym, ◌∙◌, ap₂, rules}
-use Rattle.actions.specs.Arguments.{caching_of, caching_in}
+use Rattle.actions.specs.Arguments.{caching_of}
 use Rattle.actions.proofs.Reading.{certificate_and_tag}
 use Rattle.actions.proofs.arguments.certificate_in.Goals as goal
-
-pub returns-then-bytes-lengths : goal.returns-then-bytes-lengths
-unfolding caching_in
-returns-then-bytes-lengths c = search rules
 
 pub returns : goal.returns
 returns c =

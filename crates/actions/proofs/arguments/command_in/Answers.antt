@@ -1,16 +1,8 @@
 use Rattle.std.proofs.Common.{◌≡◌, ◌<◌, length, get_or, sym, ◌∙◌, ap₂, rules}
 use Rattle.permission.proofs.Fronts.{first_and_rest}
-use Rattle.actions.specs.Arguments.{performing_of, perform_in}
+use Rattle.actions.specs.Arguments.{performing_of}
 use Rattle.actions.proofs.Reading.{name_and_payload}
 use Rattle.actions.proofs.arguments.command_in.Goals as goal
-
-pub returns-in_default : goal.returns-in_default
-unfolding perform_in
-returns-in_default c = search rules
-
-pub returns-then-n-rest : goal.returns-then-n-rest
-unfolding perform_in
-returns-then-n-rest c = search rules
 
 pub returns : goal.returns
 returns c =
