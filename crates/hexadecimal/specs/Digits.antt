@@ -3,11 +3,11 @@ use Rattle.std.specs.Prelude.{◌≡◌, ℕ, ◌+◌, ◌*◌, ◌%◌, ◌<◌
 use Rattle.std.proofs.Common.{suc, sym, ap, ◌∙◌, arith}
 use Rattle.std.proofs.ByRecursion.{Decides-by_and}
 use Rattle.std.proofs.lemmas.Bool.Decides.{Decides-ltb}
-use Rattle.std.specs.List.{AllByRecursion as All}
+use Rattle.std.specs.List.{AllByRecursion}
 use Rattle.std.specs.Option.{option_map}
 use Rattle.hexadecimal.specs.Hex.{hex_value, all_hex, hex_bytes}
 
-pub all_hex_decides : (hex : List ℕ) → Decides (all_hex hex) (All (λ c. hex_value c < 16) hex)
+pub all_hex_decides : (hex : List ℕ) → Decides (all_hex hex) (AllByRecursion (λ c. hex_value c < 16) hex)
 all_hex_decides = Decides-by_and (λ c. nat_lt (hex_value c) 16) (λ c. hex_value c < 16) all_hex (λ c. Decides-ltb (hex_value c) 16) refl (λ _ _. refl)
 
 mapped : {X Y : Type 0} (f : X → Y) (o : Option X) → is_some (option_map f o) ≡ is_some o
