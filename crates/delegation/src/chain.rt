@@ -2,7 +2,8 @@
 //
 // A certificate is marked where it leads to the signer. The search begins with those that name the signer, with or without
 // their flag, and goes on with those that have their flag and name the issuer of a marked one, until no more are marked.
-// Marks stand beside certificates and not beside hashes: a certificate without its flag hides none that has it.
+// Marks stand beside certificates and not beside hashes: a certificate without its flag hides none that has it. They are an array of
+// their own, since there is no heap and the certificates are only lent.
 ghost use Rattle.std.specs.Prelude.{◌≡◌, ℕ, ◌<◌, ◌≤◌, true, ◌&&◌, length, MatchOption, IfSome, ◌≢◌, slice_index_or};
 ghost use Rattle.std.specs.Option.{option_copied};
 ghost use Rattle.machine.specs.Delegation.{may_begin, authorised};

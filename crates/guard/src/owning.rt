@@ -1,6 +1,6 @@
 // What owners do: take, grant and revoke ownership, and keep entries. Functions over the tables that they need: as methods they
-// would borrow the whole guard, to change one table while another is read. Granting asks the table that it changes, adding another: no
-// one function for both borrows it twice.
+// would borrow the whole guard, to change one table while another is read. Granting asks the table that it changes, adding another: one
+// function for both would borrow a table twice. So it is of revoking and deleting, and only revoking refuses the signer itself.
 ghost use Rattle.std.specs.Prelude.{◌≡◌, ◌+◌, ◌≤◌, not, ◌&&◌, [], ◌∷◌, ◌++◌, length, take, if◌then◌else◌, ◌==◌};
 ghost use Rattle.std.specs.Str.{bytes_eq};
 ghost use Rattle.refusal.specs.declared.Refusal.TheVariants.{NotAuthorised, RevokesItself, NotListed};

@@ -1,4 +1,4 @@
-// Entries for a web front in C. A slice passes as a pointer and a length.
+// Entries for a web front in C. A slice passes as a pointer and a length, and an answer is a number, which C reads.
 #![tactic(auto)]
 
 ghost use Rattle.std.specs.Prelude.{◌≡◌};
