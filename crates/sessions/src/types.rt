@@ -1,6 +1,7 @@
 // Sessions and their names.
-// An open session: who signs under it, by which key, and the last number that was used.
-#[derive(Clone, Copy, PartialEq, Eq, Debug, Default)]
+// An open session: who signs under it, by which key, and the last number that was used. It is neither printed nor compared as a whole:
+// the key is a secret.
+#[derive(Clone, Copy, Default)]
 pub struct Session {
     pub id: u64,
     pub signer: [u8; 20],
