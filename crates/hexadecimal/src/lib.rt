@@ -1,7 +1,7 @@
 // Bytes as hexadecimal digits, two for each byte.
 #![tactic(auto)]
 
-ghost use Rattle.std.specs.Prelude.{◌≡◌, ℕ, ◌+◌, ◌*◌, ◌<◌, List, [], ◌∷◌, ◌++◌, length, IfOk, vec_items, vec_len, codes, Some, MatchOption};
+ghost use Rattle.std.specs.Prelude.{◌≡◌, ℕ, ◌+◌, ◌*◌, ◌<◌, List, [], ◌∷◌, ◌++◌, length, IfOk, vec_items, vec_len, codes, fold, true, ◌&&◌, Some, MatchOption, OnOk, nat_lt};
 ghost use Rattle.std.specs.Option.{option_map};
 ghost use Rattle.std.specs.Str.{bytes_eq};
 ghost use Rattle.hexadecimal.specs.Hex.{hex_character, hex_value, hex_text, hex_bytes, bytes_named};
@@ -50,10 +50,27 @@ fn character_of(v: u8) -> u8
     }
 }
 
+fn is_digit(c: u8) -> bool
+    ensures { result ≡ nat_lt (hex_value c) 16 }
+{
+    value_of(c).is_some()
+}
+
+// Whether each byte is a digit. With no early exit the bytes are tested several at a time.
+fn all_digits(hex: &[u8]) -> bool
+    ensures { result ≡ fold (λ all c. all && nat_lt (hex_value c) 16) true hex.now }
+{
+    hex.iter().fold(true, |all, c| all & is_digit(*c))
+}
+
 // The bytes that digits write, two for each, if they are so many and each is a digit.
 pub fn decode(heap: Global, hex: &[u8]) -> Result<Option<Vec<u8>>, AllocError>
     ensures reads_exactly_pairs_of_digits { IfOk result (λ o. option_map vec_items o ≡ hex_bytes hex.now) }
 {
+    // Tested before memory is taken: a word that is refused needs none.
+    if hex.len() % 2 != 0 || !all_digits(hex) {
+        return Ok(None);
+    }
     let mut out = Vec::new(heap);
     let mut rest = hex;
     while let Some(([high, low], after)) = rest.split_first_chunk::<2>() {
@@ -79,4 +96,15 @@ pub fn bytes_named(heap: Global, word: &[u8]) -> Result<Option<Vec<u8>>, AllocEr
         [b'-'] => Ok(Some(Vec::new(heap))),
         _ => decode(heap, word),
     }
+}
+
+// Adds the digits of some bytes, in lower case.
+pub fn push(out: &mut Vec<u8>, bytes: &[u8]) -> Result<(), AllocError>
+    ensures adds_two_digits_a_byte { OnOk result (out.new.items ≡ out.old.items ++ hex_text bytes.now) }
+{
+    for b in bytes {
+        out.push(character_of(*b / 16))?;
+        out.push(character_of(*b % 16))?;
+    }
+    Ok(())
 }

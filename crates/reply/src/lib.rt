@@ -7,7 +7,6 @@ ghost use Rattle.reply.specs.Replies.{hash_reply, text_reply, covers_reply, sha1
 ghost use Rattle.statement.specs.Lines.{before, after};
 ghost use Rattle.statement.specs.Statements.{said};
 
-use hexadecimal::Digits;
 use keyhash::element;
 use refusal::Refusal;
 use statement::Statement;
@@ -144,14 +143,16 @@ pub fn evaluate(heap: Global, statement: Statement<'_>) -> Result<Option<Reply>,
     }
 }
 
-// The line that is printed for an answer, less its line feed.
+// The line that is printed for an answer, less its line feed. Digits are pushed and not formatted: through a formatter, which takes
+// each character by itself, an input of hashes takes twice as long.
 pub fn line(heap: Global, number: u64, reply: &Reply) -> Result<Vec<u8>, AllocError>
     ensures line_as_defined { IfOk result (λ v. v.items ≡ printed number reply.now) }
 {
     match reply {
         Reply::Hash(hash) => {
-            let digits = Digits { bytes: hash };
-            Ok(format!(in heap; "hash {digits}")?.into_bytes())
+            let mut line = Vec::from_slice(heap, b"hash ")?;
+            hexadecimal::push(&mut line, hash)?;
+            Ok(line)
         }
         Reply::Malformed => Vec::from_slice(heap, b"malformed"),
         Reply::Text(text) => {
@@ -163,8 +164,9 @@ pub fn line(heap: Global, number: u64, reply: &Reply) -> Result<Vec<u8>, AllocEr
         Reply::Covers(Ok(false)) => Vec::from_slice(heap, b"no"),
         Reply::Covers(Err(_)) => Vec::from_slice(heap, b"malformed"),
         Reply::Digest(value) => {
-            let digits = Digits { bytes: value };
-            Ok(format!(in heap; "{digits}")?.into_bytes())
+            let mut line = Vec::new(heap);
+            hexadecimal::push(&mut line, value)?;
+            Ok(line)
         }
         Reply::Mistaken(mistake) => {
             Ok(format!(in heap; "error {number}: {mistake}")?.into_bytes())

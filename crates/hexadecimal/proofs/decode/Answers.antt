@@ -3,7 +3,9 @@ use Rattle.std.specs.Option.{option_map}
 use Rattle.std.proofs.lemmas.Bool.Decides.{Decides-ltb}
 use Rattle.std.proofs.lemmas.List.{append_assoc}
 use Rattle.hexadecimal.specs.Hex.{hex_value, hex_bytes}
+use Rattle.hexadecimal.proofs.Refusals.{all_digits_is, refuses_odd, refuses_other}
 use Rattle.hexadecimal.proofs.decode.Goals as goal
+use Rattle.hexadecimal.proofs.decode.Goals.{then-hex-ne0-via-then-hex-ne0, then-hex-ne0-via-else-hex-ne0+then-not-all_digits}
 
 -- the bytes of two digits more stand behind those so far
 one_pair_more : (out : List ℕ) (a b : ℕ) (rest : List ℕ) → hex_value a < 16 → hex_value b < 16
@@ -33,3 +35,11 @@ loop-high-preserved c =
     let pair = c.in-Some.ensures.cases in
     rw (c.in_ok-push.ensures.items)
     (c.loop-high.invariant ∙ pair_taken _ _ _ _ _ _ pair.0 pair.1 pair.2 c.in-Some-Some.ensures.1 c.in-Some-Some.ensures.0 c.in-Some-Some.ensures'.1 c.in-Some-Some.ensures'.0)
+
+pub returns-then-hex-ne0 : goal.returns-then-hex-ne0
+returns-then-hex-ne0 c =
+    let hex = c.args.hex.now in
+    elim c.then-hex-ne0.branch [
+      | then-hex-ne0-via-then-hex-ne0 w ↦ record { reads_exactly_pairs_of_digits = refuses_odd hex w.if-hex-ne0.true }
+      | then-hex-ne0-via-else-hex-ne0+then-not-all_digits w ↦ record { reads_exactly_pairs_of_digits = refuses_other hex (sym (all_digits_is hex _ w.all_digits.ensures) ∙ w.if-not-all_digits.true) }
+    ]
