@@ -1,82 +1,166 @@
--- Two sets that a walk over some hashes keeps: the hashes seen, and those seen again.
-use Rattle.std.proofs.Common.{◌≡◌, ℕ, ◌+◌, ◌<◌, Bool, true, false, not, ◌||◌, cond, leb, List, [], ◌∷◌, length, get_or, take, refl, ap, ◌∙◌, Ordering, arith}
-use Rattle.std.specs.BTreeSet.{BTreeSet, IsOrdered, Updates, contains}
+-- In a sorted list equal hashes stand together, so a hash that came more than once follows itself.
+use Rattle.std.proofs.Common.{◌≡◌, ℕ, suc, ◌+◌, ◌-◌, ◌<◌, ◌≤◌, Bool, true, false, cond, leb, List, [], ◌∷◌, ◌++◌, length, get_or, take, drop, sum_by, Ordering, Less, Equal, Greater, sym, refl, ap, ◌∙◌, subst, true≢false, arith}
 use Rattle.std.specs.Cmp.Lexicographic.{slice_cmp}
-use Rattle.std.specs.List.{AllByRecursion, IsDistinct, list_any}
-use Rattle.std.specs.Ordering.{eq_by_cmp, nat_cmp}
+use Rattle.std.specs.Ordering.{is_lt, ordering_reverse, nat_cmp}
+use Rattle.std.proofs.lemmas.Cmp.{nat_list_cmp_total}
+use Rattle.std.proofs.lemmas.Map.Lookups.{exact_bytes}
+use Rattle.std.specs.List.Sorted.{IsSortedWithin, IsPermutation}
 use Rattle.std.specs.Str.{bytes_eq}
-use Rattle.std.proofs.lemmas.Bool.Decides.{nat_tests}
-use Rattle.std.proofs.lemmas.List.Sums.{sum_by-cons, sum_by_more}
-use Rattle.std.proofs.lemmas.Cmp.{nat_list_eq_equiv}
-use Rattle.std.proofs.lemmas.Map.Keys.{IsDistinct-from_sorted, IsDistinct-head, IsDistinct-tail}
-use Rattle.std.proofs.lemmas.Map.Text.{is_eq-slice_cmp}
+use Rattle.std.proofs.lemmas.List.MinMax.{ranks_by}
 use Rattle.std.proofs.lemmas.Slice.Eq.{bytes_eq-Decides}
-use Rattle.account.specs.Repeats.{one_if, times}
+use Rattle.std.proofs.lemmas.List.{append_assoc, at_drop_more, take_rest}
+use Rattle.std.proofs.lemmas.List.Sorted.{sorted_far, sum_by-IsPermutation}
+use Rattle.std.proofs.lemmas.List.Sums.{sum_by-cons}
+use Rattle.std.proofs.lemmas.Bool.Decides.{nat_tests}
+use Rattle.account.specs.Repeats.{one_if, ListsEachRepeatedHashOnce, repeats_after, repeats}
 
-abbrev order : List ℕ → List ℕ → Ordering
-order = slice_cmp nat_cmp
+-- how often a hash is among some, counted one by one
+abbrev times : List ℕ → List (List ℕ) → ℕ
+times hash [] = 0
+times hash (other ∷ others) = one_if hash other + times hash others
 
--- whether a set holds a hash that is the same as one
-abbrev holds : List ℕ → List (List ℕ) → Bool
-holds hash keys = list_any (eq_by_cmp order hash) keys
+-- equal hashes stand together
+abbrev pub Grouped : List ℕ → List (List ℕ) → Type 0
+Grouped hash [] = Unit {0}
+Grouped hash (next ∷ rest) = (bytes_eq hash next ≡ false → times hash (next ∷ rest) ≡ 0) × Grouped next rest
 
--- no key is the same as one that each of them differs from
-none_same : (key : List ℕ) (keys : List (List ℕ)) → AllByRecursion (λ k. eq_by_cmp order key k ≡ false) keys → holds key keys ≡ false
-none_same key [] d = refl
-none_same key (k ∷ keys) d = ap (λ b. b || holds key keys) d.0 ∙ none_same key keys d.1
+-- how often a hash is listed: once where it came twice, or where the current one, not yet listed, comes again
+abbrev expected : Bool → List ℕ → List ℕ → List (List ℕ) → ℕ
+expected false hash current rest = cond (leb 2 (one_if hash current + times hash rest)) 1 0
+expected true hash current rest = cond (bytes_eq hash current) 0 (cond (leb 2 (times hash rest)) 1 0)
 
-step : (b e later : Bool) (n : ℕ) → e ≡ b → n ≡ cond later 1 0 → (b ≡ true → later ≡ false) → cond b 1 0 + n ≡ cond (e || later) 1 0
-step b e later n same is apart = grind (arith, nat_tests)
+-- one hash on: b and p say whether the next and the hash that is counted are the current one, and q whether they are the same
+step : (listed b p q : Bool) (n again other : ℕ) → (b ≡ true → p ≡ q) → (b ≡ false → p ≡ true → cond q 1 0 + n ≡ 0)
+    → (b ≡ true → again ≡ cond p 0 (cond (leb 2 n) 1 0)) → other ≡ cond (leb 2 (cond q 1 0 + n)) 1 0
+    → cond b (cond listed again (cond p 1 0 + again)) other ≡ cond listed (cond p 0 (cond (leb 2 (cond q 1 0 + n)) 1 0)) (cond (leb 2 (cond p 1 0 + (cond q 1 0 + n))) 1 0)
+step listed b p q n again other same apart e f = grind (arith, nat_tests)
 
--- a hash is once among keys that differ, if it is one of them
-once_among : (hash : List ℕ) (keys : List (List ℕ)) → IsDistinct (eq_by_cmp order) keys → times hash keys ≡ cond (holds hash keys) 1 0
-once_among hash [] d = refl
-once_among hash (key ∷ keys) d =
-    sum_by-cons (one_if hash) key keys
-    ∙ step (bytes_eq hash key) (eq_by_cmp order hash key) (holds hash keys) (times hash keys) (is_eq-slice_cmp hash key) (once_among hash keys (IsDistinct-tail _ key keys d))
-    (λ e. ap (λ h. holds h keys) ((bytes_eq-Decides hash key).0 e) ∙ none_same key keys (IsDistinct-head _ key keys d))
+times_cond : (hash : List ℕ) (b : Bool) (xs ys : List (List ℕ)) → times hash (cond b xs ys) ≡ cond b (times hash xs) (times hash ys)
+times_cond hash true xs ys = refl
+times_cond hash false xs ys = refl
 
-pub once_in_a_set : (hash : List ℕ) (set : BTreeSet (List ℕ)) → IsOrdered order set → times hash set.keys ≡ cond (contains order set hash) 1 0
-once_in_a_set hash set up = once_among hash set.keys (IsDistinct-from_sorted order set.keys up)
+expected_is : (listed : Bool) (hash current : List ℕ) (rest : List (List ℕ)) → expected listed hash current rest ≡ cond listed (cond (bytes_eq hash current) 0 (cond (leb 2 (times hash rest)) 1 0)) (cond (leb 2 (one_if hash current + times hash rest)) 1 0)
+expected_is true hash current rest = refl
+expected_is false hash current rest = refl
 
-seen_more : (b e held : Bool) (n m : ℕ) → e ≡ b → held ≡ leb 1 n → m ≡ n + cond b 1 0 → cond e true held ≡ leb 1 m
-seen_more b e held n m same is more = grind (arith, nat_tests)
+listed_once : (hash current : List ℕ) (listed : Bool) (rest : List (List ℕ)) → Grouped current rest → times hash (repeats_after current listed rest) ≡ expected listed hash current rest
+listed_once hash current false [] g = few (bytes_eq hash current)
+  where
+    few : (b : Bool) → ◌≡◌ {A = ℕ} 0 (cond (leb 2 (cond b 1 0 + 0)) 1 0)
+    few true = refl
+    few false = refl
+listed_once hash current true [] g = none (bytes_eq hash current)
+  where
+    none : (b : Bool) → ◌≡◌ {A = ℕ} 0 (cond b 0 0)
+    none true = refl
+    none false = refl
+listed_once hash current listed (next ∷ rest) g =
+    let b = bytes_eq current next in
+    let p = bytes_eq hash current in
+    let q = bytes_eq hash next in
+    let again = repeats_after current true rest in
+    let other = repeats_after next false rest in
+    let same : bytes_eq current next ≡ true → bytes_eq hash current ≡ bytes_eq hash next = λ e. ap (bytes_eq hash) ((bytes_eq-Decides current next).0 e) in
+    let apart : bytes_eq current next ≡ false → bytes_eq hash current ≡ true → cond (bytes_eq hash next) 1 0 + times hash rest ≡ 0 =
+    λ e f. ap (λ h. times h (next ∷ rest)) ((bytes_eq-Decides hash current).0 f) ∙ g.0 e in
+    let as-next : bytes_eq current next ≡ true → Grouped current rest = λ e. subst (λ h. Grouped h rest) (sym ((bytes_eq-Decides current next).0 e)) g.1 in
+    times_cond hash b (cond listed again (current ∷ again)) other
+    ∙ ap (λ n. cond b n (times hash other)) (times_cond hash listed again (current ∷ again))
+    ∙ step listed b p q (times hash rest) (times hash again) (times hash other) same apart (λ e. listed_once hash current true rest (as-next e)) (listed_once hash next false rest g.1)
+    ∙ sym (expected_is listed hash current (next ∷ rest))
 
-again_more : (b e held : Bool) (n m : ℕ) → e ≡ b → held ≡ leb 2 n → m ≡ n + cond b 1 0 → (b ≡ true → leb 1 n ≡ true) → cond e true held ≡ leb 2 m
-again_more b e held n m same is more seen = grind (arith, nat_tests)
+-- no hash is below one that stands before it
+abbrev lt : List ℕ → List ℕ → Bool
+lt x y = is_lt (slice_cmp nat_cmp x y)
 
-once_more : (b held : Bool) (n m : ℕ) → held ≡ leb 2 n → m ≡ n + cond b 1 0 → (b ≡ true → leb 1 n ≡ false) → held ≡ leb 2 m
-once_more b held n m is more first = grind (arith, nat_tests)
+equal_from_both : (x y : List ℕ) → lt x y ≡ false → lt y x ≡ false → x ≡ y
+equal_from_both x y e f = by (slice_cmp nat_cmp x y) refl
+  where
+    by : (k : Ordering) → slice_cmp nat_cmp x y ≡ k → x ≡ y
+    by Less g = absurd (true≢false (sym (ap is_lt g) ∙ e))
+    by Equal g = exact_bytes x y g
+    by Greater g = absurd (true≢false (sym (ap is_lt (nat_list_cmp_total.antisymm y x ∙ ap ordering_reverse g)) ∙ f))
 
--- the walk, one hash on
-module _ (hashes : List (List ℕ)) (i : ℕ) (l : i < length hashes) where
-  abbrev hash : List ℕ
-  hash = get_or hashes i []
+-- a hash that some list has none of
+no_times : (hash : List ℕ) (xs : List (List ℕ)) → ((k : ℕ) → k < length xs → hash ≡ get_or xs k [] → ⊥) → times hash xs ≡ 0
+no_times hash [] none = refl
+no_times hash (x ∷ xs) none =
+    let other : bytes_eq hash x ≡ false = by (bytes_eq hash x) refl in
+    let rest : times hash xs ≡ 0 = no_times hash xs (λ k l e. none (suc k) (omega arith) e) in
+    ap (λ b. cond b 1 0 + times hash xs) other ∙ omega arith
+  where
+    by : (b : Bool) → bytes_eq hash x ≡ b → b ≡ false
+    by true e = absurd (none 0 (omega arith) ((bytes_eq-Decides hash x).0 e))
+    by false e = refl
 
-  abbrev before : List (List ℕ)
-  before = take i hashes
+-- pairs in order, nearest first
+abbrev Sorted : List (List ℕ) → Type 0
+Sorted xs = (i j : ℕ) → i ≤ j → j < length xs → lt (get_or xs j []) (get_or xs i []) ≡ false
 
-  module _ (q : List ℕ) where
-    -- what a set's test for this hash says of another
-    test : eq_by_cmp order hash q ≡ bytes_eq q hash
-    test = is_eq-slice_cmp hash q ∙ nat_list_eq_equiv.symm hash q
+grouped_from_sorted : (hash : List ℕ) (rest : List (List ℕ)) → Sorted (hash ∷ rest) → Grouped hash rest
+grouped_from_sorted hash [] up = tt
+grouped_from_sorted hash (next ∷ rest) up = (
+  (λ apart. no_times hash (next ∷ rest)
+      (λ k l e. let same : hash ≡ next = equal_from_both hash next (ap (λ h. lt h next) e ∙ up 1 (suc k) (omega arith) (omega arith)) (up 0 1 (omega arith) (omega arith)) in
+      absurd (true≢false (sym ((bytes_eq-Decides hash next).1 same) ∙ apart)))),
+  grouped_from_sorted next rest (λ i j l m. up (suc i) (suc j) (omega arith) (omega arith)),
+)
 
-    more : times q (take (i + 1) hashes) ≡ times q before + cond (bytes_eq q hash) 1 0
-    more = sum_by_more (one_if q) hashes i [] l
+sorted_from_ascends : (xs : List (List ℕ)) (n : ℕ) → length xs ≡ n → IsSortedWithin lt xs 0 n → Sorted xs
+sorted_from_ascends xs n e up i j l m = sorted_far lt (ranks_by nat_list_cmp_total (λ x. x)) xs (subst (IsSortedWithin lt xs 0) (sym e) up) i j [] l m
 
-    -- where the other is this hash
-    at-it : {b : Bool} → leb 1 (times hash before) ≡ b → bytes_eq q hash ≡ true → leb 1 (times q before) ≡ b
-    at-it is e = ap (λ h. leb 1 (times h before)) ((bytes_eq-Decides q hash).0 e) ∙ is
+times_is : (hash : List ℕ) (xs : List (List ℕ)) → times hash xs ≡ sum_by (one_if hash) xs
+times_is hash [] = refl
+times_is hash (x ∷ xs) = ap (λ n. one_if hash x + n) (times_is hash xs) ∙ sym (sum_by-cons (one_if hash) x xs)
 
-    pub seen-next : (old new : BTreeSet (List ℕ)) → contains order old q ≡ leb 1 (times q before) → Updates order old new hash true → contains order new q ≡ leb 1 (times q (take (i + 1) hashes))
-    seen-next old new is u = u.0 q ∙ seen_more _ _ _ _ _ test is more
+pub times_shuffled : (hash : List ℕ) (xs ys : List (List ℕ)) → IsPermutation xs ys → times hash ys ≡ times hash xs
+times_shuffled hash xs ys moved = times_is hash ys ∙ sum_by-IsPermutation (one_if hash) xs ys moved ∙ sym (times_is hash xs)
 
-    pub again-next : (old new : BTreeSet (List ℕ)) → contains order old q ≡ leb 2 (times q before) → Updates order old new hash true → leb 1 (times hash before) ≡ true → contains order new q ≡ leb 2 (times q (take (i + 1) hashes))
-    again-next old new is u seen = u.0 q ∙ again_more _ _ _ _ _ test is more (at-it seen)
+-- in the sorted list of some hashes, those that follow themselves are those that came more than once
+pub sorted_repeats : (hashes sorted : List (List ℕ)) (n : ℕ) → IsPermutation hashes sorted → length sorted ≡ n → IsSortedWithin lt sorted 0 n → ListsEachRepeatedHashOnce hashes (repeats sorted)
+sorted_repeats hashes sorted n moved e up hash =
+    sym (times_is hash (repeats sorted)) ∙ listed sorted (sorted_from_ascends sorted n e up) ∙ ap (λ m. cond (leb 2 m) 1 0) (times_shuffled hash hashes sorted moved ∙ times_is hash hashes)
+  where
+    listed : (xs : List (List ℕ)) → Sorted xs → times hash (repeats xs) ≡ cond (leb 2 (times hash xs)) 1 0
+    listed [] s = refl
+    listed (x ∷ xs) s = listed_once hash x false xs (grouped_from_sorted x xs s)
 
-    pub again-stays : (set : BTreeSet (List ℕ)) → contains order set q ≡ leb 2 (times q before) → leb 1 (times hash before) ≡ false → contains order set q ≡ leb 2 (times q (take (i + 1) hashes))
-    again-stays set is first = once_more _ _ _ _ is more (at-it first)
+-- a loop over the list, one hash on: the next is another, the current one again, or again once it is listed
+module _ (current : List ℕ) (listed : Bool) (xs : List (List ℕ)) (i : ℕ) (l : i < length xs) (old whole : List (List ℕ)) (is : old ++ repeats_after current listed (drop i xs) ≡ whole) where
+  abbrev next : List ℕ
+  next = get_or xs i []
 
--- an insertion adds a hash where the set held none such
-pub was_held : (held added again : Bool) (n : ℕ) → held ≡ leb 1 n → added ≡ not held → added ≡ not again → leb 1 n ≡ again
-was_held held added again n is e f = grind (arith, nat_tests)
+  abbrev rest : List (List ℕ)
+  rest = drop (i + 1) xs
+
+  open_step : old ++ cond (bytes_eq current next) (cond listed (repeats_after current true rest) (current ∷ repeats_after current true rest)) (repeats_after next false rest) ≡ whole
+  open_step = ap (λ ys. old ++ ys) (sym (at_drop_more (repeats_after current listed) xs i [] l)) ∙ is
+
+  pub at_another : (out : List (List ℕ)) (hash : List ℕ) (mark : Bool) → (current ≡ next → ⊥) → out ≡ old → hash ≡ next → mark ≡ false → out ++ repeats_after hash mark rest ≡ whole
+  at_another out hash mark other e f g =
+      let no : bytes_eq current next ≡ false = by (bytes_eq current next) refl in
+      let now : old ++ repeats_after next false rest ≡ whole = ap (λ b. old ++ cond b (cond listed (repeats_after current true rest) (current ∷ repeats_after current true rest)) (repeats_after next false rest)) (sym no) ∙ open_step in
+      cc
+    where
+      by : (b : Bool) → bytes_eq current next ≡ b → b ≡ false
+      by true t = absurd (other ((bytes_eq-Decides current next).0 t))
+      by false t = refl
+
+  again : current ≡ next → old ++ cond listed (repeats_after current true rest) (current ∷ repeats_after current true rest) ≡ whole
+  again e = ap (λ b. old ++ cond b (cond listed (repeats_after current true rest) (current ∷ repeats_after current true rest)) (repeats_after next false rest)) (sym ((bytes_eq-Decides current next).1 e)) ∙ open_step
+
+  pub at_a_listed : (out : List (List ℕ)) (hash : List ℕ) (mark : Bool) → current ≡ next → listed ≡ true → out ≡ old → hash ≡ current → mark ≡ true → out ++ repeats_after hash mark rest ≡ whole
+  at_a_listed out hash mark same yes-listed e f g =
+      let now : old ++ repeats_after current true rest ≡ whole = ap (λ b. old ++ cond b (repeats_after current true rest) (current ∷ repeats_after current true rest)) (sym yes-listed) ∙ again same in
+      cc
+
+  pub at_a_second : (out : List (List ℕ)) (hash : List ℕ) (mark : Bool) → current ≡ next → listed ≡ false → out ≡ old ++ current ∷ [] → hash ≡ current → mark ≡ true → out ++ repeats_after hash mark rest ≡ whole
+  at_a_second out hash mark same not_listed e f g =
+      let now : old ++ (current ∷ repeats_after current true rest) ≡ whole = ap (λ b. old ++ cond b (repeats_after current true rest) (current ∷ repeats_after current true rest)) (sym not_listed) ∙ again same in
+      let joined = append_assoc old (current ∷ []) (repeats_after current true rest) in
+      cc
+
+-- its start
+pub at_the_start : (sorted : List (List ℕ)) → 0 < length sorted → repeats_after (get_or sorted 0 []) false (take (length sorted - 1) (drop 1 sorted)) ≡ repeats sorted
+at_the_start [] l = absurd (omega arith)
+at_the_start (x ∷ xs) l = ap (repeats_after x false) (take_rest (x ∷ xs) 1)

@@ -3,11 +3,10 @@
 
 ghost use Rattle.std.specs.Prelude.{◌≡◌, ℕ, ◌+◌, ◌<◌, List, [], ◌∷◌, ◌++◌, is_ok, IfOk, if◌then◌else◌, vec_len, string_bytes, nat_lt};
 ghost use Rattle.account.specs.Accounts.{empty, noted, count_lines};
-ghost use Rattle.account.specs.Repeats.{ListsEachRepeatedHashOnce};
+ghost use Rattle.account.specs.Repeats.{ListsEachRepeatedHashOnce, repeats};
 
 use reply::Reply;
 use std::alloc::{AllocError, Global};
-use std::collections::BTreeSet;
 use std::marker::Model;
 
 #[derive(Drop)]
@@ -29,18 +28,39 @@ impl Model for Account {
     ghost view = { λ a. record { hashes = vec_items a.hashes; malformed = a.malformed; written = a.written; judged = a.judged; mistakes = a.mistakes } };
 }
 
-// The hashes that are more than once among some.
+// The hashes that equal the one before them, each once, where equal ones stand together. The flag stands beside the hash that it is
+// of: in an option of the hashes still to be listed the walk would need one more test for each hash.
+fn repeats_in(heap: Global, sorted: &[[u8; 20]]) -> Result<Vec<[u8; 20]>, AllocError>
+    ensures { IfOk result (λ v. v.items ≡ repeats sorted.now) }
+{
+    let mut out = Vec::new(heap);
+    let [first, rest @ ..] = sorted else {
+        return Ok(out);
+    };
+    let mut current = *first;
+    let mut listed = false;
+    for hash in rest {
+        if current == *hash {
+            if !listed {
+                out.push(current)?;
+            }
+            listed = true;
+        } else {
+            current = *hash;
+            listed = false;
+        }
+    }
+    Ok(out)
+}
+
+// The hashes that are more than once among some. Two sets, of those seen and of those seen again, say it without an order, but take
+// three times as long and half as much memory again, and on sorted hashes more than one pass.
 fn repeats_among(heap: Global, hashes: &[[u8; 20]]) -> Result<Vec<[u8; 20]>, AllocError>
     ensures { IfOk result (λ v. ListsEachRepeatedHashOnce hashes.now v.items) }
 {
-    let mut seen = BTreeSet::new(heap);
-    let mut again = BTreeSet::new(heap);
-    for hash in hashes {
-        if !seen.insert(*hash)? {
-            again.insert(*hash)?;
-        }
-    }
-    again.into_iter().collect(heap)
+    let mut sorted = Vec::from_slice(heap, hashes)?;
+    sorted.sort_unstable();
+    repeats_in(heap, sorted.as_slice())
 }
 
 impl Account {
