@@ -10,6 +10,9 @@ fn differing_bits(a: &[u8; 20], b: &[u8; 20]) -> u8
 }
 
 // Whether two byte strings are equal. Every byte is looked at, wherever the first difference lies, so the time tells nothing.
+// By itself it is made of vectors; put in where it is called, the bytes are taken one by one, and a list of signatures is searched in five
+// times the time.
+#[inline(never)]
 pub(crate) fn same_in_constant_time(a: &[u8; 20], b: &[u8; 20]) -> bool
     ensures test { result ≡ bytes_eq a.now b.now }
     ensures decides { Decides result (b.now ≡ a.now) }
