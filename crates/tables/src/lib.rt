@@ -3,6 +3,7 @@
 
 mod cells;
 mod record;
+pub mod rows;
 mod table;
 
 pub use record::Record;

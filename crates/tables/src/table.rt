@@ -9,6 +9,7 @@ ghost use Rattle.tables.specs.Place.{named, FirstPlace};
 
 use crate::cells::Cells;
 use crate::record::Record;
+use crate::rows;
 use refusal::Refusal;
 use std::marker::Model;
 
@@ -78,14 +79,15 @@ impl<T, const N: usize> Table<T, N> {
         ensures kept { result.now ≡ self.now }
         ensures fits { length result.now ≤ N }
     {
-        &self.cells.items[..self.len]
+        let rows = &self.cells.items[..];
+        rows::front(rows, self.len)
     }
 
     // The record at place i, counted from 0.
     pub fn get(&self, i: usize) -> Option<&T>
         ensures place { option_copied result ≡ slice_get self.now i }
     {
-        self.as_slice().get(i)
+        rows::get(self.as_slice(), i)
     }
 
     // Lends the record at place i: what its holder writes there is all that changes.
@@ -131,9 +133,7 @@ impl<T: Record, const N: usize> Table<T, N> {
         ensures position { result ≡ position (named T.Record.key T.Record.equal key.now) self.now }
         ensures first_place { FirstPlace (λ x. T.Record.key x ≡ key.now) self.now result }
     {
-        self.as_slice()
-            .iter()
-            .position(|record| record.has_key(key))
+        rows::find(self.as_slice(), key)
     }
 
     pub fn contains(&self, key: &T::Key) -> bool
@@ -150,19 +150,17 @@ impl<T: Record, const N: usize> Table<T, N> {
         if self.is_full() {
             return Err(Full);
         }
-        self.cells.items[self.len] = x;
+        rows::append(&mut self.cells.items, self.len, x);
         self.len += 1;
         Ok(())
     }
 
     // Takes the record at place i out and closes the gap; where none is kept there, nothing changes.
-    #[tactic(auto, using(std::proofs::lemmas::Option::gets, crate::proofs::Places::nothing_to_remove))]
     pub fn remove_at(&mut self, i: usize) -> Option<T>
         ensures value { result ≡ slice_get self.old i }
         ensures after { self.new ≡ remove self.old i }
     {
-        let gone = *self.get(i)?;
-        self.cells.items.copy_within(i + 1..self.len, i);
+        let gone = rows::remove(&mut self.cells.items, self.len, i)?;
         self.len -= 1;
         Some(gone)
     }
