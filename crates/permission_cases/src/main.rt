@@ -3,6 +3,7 @@
 
 use anyhow::Context;
 use std::alloc::Global;
+use std::io::{BufRead, BufReader};
 
 // `-` stands for a name of no bytes, so that no line has an empty word.
 fn word(text: &str) -> &str {
@@ -24,7 +25,8 @@ fn answer(heap: Global, line: &str) -> anyhow::Result<&'static str> {
 }
 
 fn main(rt: HostRuntime) -> anyhow::Result<()> {
-    for line in rt.lines(rt.alloc()) {
+    // From a pipe `rt.lines` reads one byte at a time.
+    for line in BufReader::new(rt.alloc(), rt.stdin())?.lines(rt.alloc()) {
         let line = line?;
         rt.println(answer(rt.alloc(), line.as_str())?)?;
     }

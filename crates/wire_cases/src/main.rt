@@ -6,8 +6,11 @@ mod envelopes;
 mod show;
 mod verifier;
 
+use std::io::{BufRead, BufReader};
+
 fn main(rt: HostRuntime) -> anyhow::Result<()> {
-    for line in rt.lines(rt.alloc()) {
+    // From a pipe `rt.lines` reads one byte at a time.
+    for line in BufReader::new(rt.alloc(), rt.stdin())?.lines(rt.alloc()) {
         let line = line?;
         let bytes = envelopes::bytes_of(rt.alloc(), line.as_str())?;
         envelopes::judge(&rt, bytes.as_slice())?;
