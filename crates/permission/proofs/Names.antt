@@ -1,5 +1,5 @@
 -- The tests on names decide what names are and how they are ordered.
-use Rattle.std.proofs.Common.{◌≡◌, ℕ, Bool, true, false, Some, not, arith, ◌≤◌, ◌&&◌, eqb, ltb, leb, List, [], ◌∷◌, ◌++◌, length, take, drop, Decides, sym, refl, ap, ◌∙◌}
+use Rattle.std.proofs.Common.{◌≡◌, ℕ, Bool, true, false, Some, not, arith, ◌≤◌, ◌&&◌, eqb, ltb, leb, List, [], ◌∷◌, ◌++◌, length, take, drop, fold, Decides, sym, refl, ap, ◌∙◌}
 use Rattle.std.specs.List.{AllByRecursion}
 use Rattle.std.specs.Cmp.Lexicographic.{slice_partial_cmp}
 use Rattle.std.specs.Ordering.{is_le, is_gt, is_some_and, nat_cmp}
@@ -21,6 +21,22 @@ graphic_decides b = Decides-and (leb 0x21 b) (leb b 0x7E) (leb_decides 0x21 b) (
 
 pub all_graphic_decides : (bytes : List ℕ) → Decides (all_graphic bytes) (AllByRecursion Graphic bytes)
 all_graphic_decides bytes = Decides-by_and graphic Graphic all_graphic graphic_decides refl (λ _ _. refl) bytes
+
+and_in_turn : (a b c : Bool) → ((a && b) && c) ≡ (a && (b && c))
+and_in_turn true b c = refl
+and_in_turn false b c = refl
+
+and_true : (a : Bool) → (a && true) ≡ a
+and_true true = refl
+and_true false = refl
+
+-- what was seen of the bytes and what is left of them decide
+seen_and_left : (seen : Bool) (bytes : List ℕ) → fold (λ all byte. all && graphic byte) seen bytes ≡ (seen && all_graphic bytes)
+seen_and_left seen [] = sym (and_true seen)
+seen_and_left seen (byte ∷ bytes) = seen_and_left (seen && graphic byte) bytes ∙ and_in_turn seen (graphic byte) (all_graphic bytes)
+
+pub all_graphic_in_turn : (bytes : List ℕ) (answer : Bool) → answer ≡ fold (λ all byte. all && graphic byte) true bytes → answer ≡ all_graphic bytes
+all_graphic_in_turn bytes answer e = e ∙ seen_and_left true bytes
 
 pub is_name_decides : (bytes : List ℕ) → Decides (is_name bytes) (IsName bytes)
 is_name_decides bytes =

