@@ -1,4 +1,4 @@
-ghost use Rattle.std.specs.Prelude.{◌≡◌, ◌++◌};
+ghost use Rattle.std.specs.Prelude.{◌≡◌};
 ghost use Rattle.sha1_hmac.specs.Message.{digest};
 ghost use Rattle.sha1_hmac.specs.Keyed.{hmac_of};
 ghost use Rattle.vectors.specs.Copies.{copies};
@@ -8,20 +8,22 @@ use hexadecimal::Digits;
 use sha1_hmac::{Hmac, Sha1};
 use std::alloc::Global;
 
-// SHA-1 of a text that comes in two pieces.
-fn in_pieces(front: &[u8], back: &[u8]) -> [u8; 20]
-    ensures { result ≡ digest (front.now ++ back.now) }
+// SHA-1 of a text that comes in two pieces, cut at `cut`.
+fn in_pieces(text: &[u8], cut: usize) -> [u8; 20]
+    ensures { result ≡ digest text.now }
 {
-    let mut state = Sha1::new();
-    state.update(front);
-    state.update(back);
-    state.finish()
+    let (front, back) = text.split_at(cut.min(text.len()));
+    let mut hash = Sha1::new();
+    hash.update(front);
+    hash.update(back);
+    hash.finish()
 }
 
-// HMAC-SHA1 of a text that comes in two pieces. A trait over the two states, with a relation of states to texts and an impl for each, would be longer than these calls.
-fn hmac_in_pieces(key: [u8; 20], front: &[u8], back: &[u8]) -> [u8; 20]
-    ensures { result ≡ hmac_of key (front.now ++ back.now) }
+// HMAC-SHA1 of a text that comes in two pieces, cut at `cut`. A trait over the two states, with a relation of states to texts and an impl for each, would be longer than these calls.
+fn hmac_in_pieces(key: [u8; 20], text: &[u8], cut: usize) -> [u8; 20]
+    ensures { result ≡ hmac_of key text.now }
 {
+    let (front, back) = text.split_at(cut.min(text.len()));
     let mut state = Hmac::new(key);
     state.update(front);
     state.update(back);
@@ -29,18 +31,11 @@ fn hmac_in_pieces(key: [u8; 20], front: &[u8], back: &[u8]) -> [u8; 20]
 }
 
 // How many of the cuts into two pieces give another answer than the whole text.
-fn differing_cuts<F: Fn(&[u8], &[u8]) -> [u8; 20]>(
-    text: &[u8],
-    whole: [u8; 20],
-    in_pieces: F,
-) -> usize
+fn differing_cuts<F: Fn(usize) -> [u8; 20]>(text: &[u8], whole: [u8; 20], in_pieces: F) -> usize
     requires { F.IsAlwaysCallable in_pieces }
 {
     (0..text.len())
-        .filter(|cut| {
-            let (front, back) = text.split_at((*cut).min(text.len()));
-            in_pieces(front, back) != whole
-        })
+        .filter(|cut| in_pieces(*cut) != whole)
         .count()
 }
 
@@ -63,7 +58,7 @@ fn decode(heap: Global, word: &str) -> anyhow::Result<Vec<u8>> {
 fn hash_case(heap: Global, text: &str) -> anyhow::Result<String> {
     let text = decode(heap, text)?;
     let whole = sha1_hmac::sha1(&text);
-    let differing = differing_cuts(&text, whole, in_pieces);
+    let differing = differing_cuts(&text, whole, |cut| in_pieces(&text, cut));
     let digest = Digits { bytes: &whole };
     Ok(format!(in heap; "{digest}, other at {differing} cuts")?)
 }
@@ -81,7 +76,7 @@ fn hmac_case(heap: Global, words: &str) -> anyhow::Result<String> {
     let key = sha1_hmac::key_from(&decode(heap, key)?).context("a long key")?;
     let text = decode(heap, text)?;
     let whole = sha1_hmac::hmac(key, &text);
-    let differing = differing_cuts(&text, whole, |front, back| hmac_in_pieces(key, front, back));
+    let differing = differing_cuts(&text, whole, |cut| hmac_in_pieces(key, &text, cut));
     let digest = Digits { bytes: &whole };
     Ok(format!(in heap; "{digest}, other at {differing} cuts")?)
 }
