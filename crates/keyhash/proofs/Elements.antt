@@ -1,8 +1,10 @@
 -- The escaped hash element: 64 fixed bytes, the 28 characters, 27 fixed bytes.
-use Rattle.std.proofs.Common.{◌≡◌, ℕ, ◌/◌, ◌%◌, cond, List, ◌++◌, map, length, get_or, take, drop, Ok, Err, sym, refl, ap, ◌∙◌, arith}
+use Rattle.std.proofs.Common.{◌≡◌, ℕ, ◌/◌, ◌%◌, Bool, true, false, ◌&&◌, eqb, cond, List, [], ◌∷◌, ◌++◌, map, fold, length, get_or, take, drop, Decides, Ok, Err, sym, refl, ap, ap₂, ◌∙◌, arith}
 use borrow.Rule.Slice.PartMut.{put_mid}
 use Rattle.std.specs.Int.Digits.{number_from_digits}
+use Rattle.std.specs.List.{zip}
 use Rattle.std.specs.Str.{bytes_eq}
+use Rattle.std.proofs.lemmas.Bool.{false≢true, eqb-true, eq-eqb}
 use Rattle.std.proofs.lemmas.Slice.Eq.{bytes_eq-Decides}
 use Rattle.std.proofs.lemmas.List.{append_assoc, append-nil, drop_all, length-drop, append_cancel_left, append_cancel_right, length-append, take-append-drop, take_at, take-append-le, drop_at, get_or_append_left}
 use Rattle.std.proofs.lemmas.Bool.Decides.{same_from_decides, Decides-like}
@@ -110,3 +112,29 @@ in_three bytes p q s one two three =
     let cut = take-append-drop 64 bytes in
     let again = take-append-drop 28 (drop 64 bytes) in
     cc
+
+both_hold : (p q : Bool) → (p && q) ≡ true → (p ≡ true) × (q ≡ true)
+both_hold true true e = (refl, refl)
+both_hold true false e = absurd (false≢true e)
+both_hold false q e = absurd (false≢true e)
+
+-- what was seen of two texts, and whether they are the same from there on
+abbrev same_on : Bool → List ℕ → List ℕ → Bool
+same_on seen a b = fold (λ all p. all && eqb p.0 p.1) seen (zip a b)
+
+same_where_seen : (seen : Bool) (a b : List ℕ) → length a ≡ length b → same_on seen a b ≡ true → (seen ≡ true) × (a ≡ b)
+same_where_seen seen [] [] l e = (e, refl)
+same_where_seen seen [] (y ∷ b) l e = absurd (omega arith)
+same_where_seen seen (x ∷ a) [] l e = absurd (omega arith)
+same_where_seen seen (x ∷ a) (y ∷ b) l e =
+    let rest = same_where_seen (seen && eqb x y) a b (omega arith) e in
+    let parts = both_hold seen (eqb x y) rest.0 in
+    (parts.0, ap₂ (λ z zs. z ∷ zs) (eqb-true x y parts.1) rest.1)
+
+seen_where_same : (a : List ℕ) → same_on true a a ≡ true
+seen_where_same [] = refl
+seen_where_same (x ∷ a) = ap (λ seen. same_on seen a a) (eq-eqb x x refl) ∙ seen_where_same a
+
+-- every byte seen decides whether two texts are the same
+pub same_decides : (a b : List ℕ) (answer : Bool) → length a ≡ length b → answer ≡ fold (λ all p. all && eqb p.0 p.1) true (zip a b) → Decides answer (a ≡ b)
+same_decides a b answer l e = ((λ t. (same_where_seen true a b l (sym e ∙ t)).1), (λ q. e ∙ ap (same_on true a) (sym q) ∙ seen_where_same a))

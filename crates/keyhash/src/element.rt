@@ -1,5 +1,5 @@
 // The text of a key hash as consoles send it: the escaped hash element, 119 bytes.
-ghost use Rattle.std.specs.Prelude.{◌≡◌, ◌≢◌, ℕ, List, ◌++◌, length, drop, Ok, Err, IfSome, IfNone};
+ghost use Rattle.std.specs.Prelude.{◌≡◌, ◌≢◌, ℕ, List, ◌++◌, length, drop, Ok, Err, IfSome, IfNone, Decides};
 ghost use Rattle.refusal.specs.declared.Refusal.TheVariants.{Malformed};
 ghost use Rattle.keyhash.specs.Canonical.{Canonical};
 ghost use Rattle.keyhash.specs.Base64.{StrayBits};
@@ -32,6 +32,13 @@ pub fn write(hash: [u8; 20]) -> [u8; 119]
     out
 }
 
+// Whether two texts of one length are the same bytes. Every byte is looked at, so that the loop has no branch.
+fn same<const N: usize>(a: &[u8; N], b: &[u8; N]) -> bool
+    ensures { Decides result (a.now ≡ b.now) }
+{
+    a.iter().zip(b).fold(true, |all, (x, y)| all & (x == y))
+}
+
 // What stands between the opening and the closing. Arrays of constant sizes are compared: with `strip_prefix` and `strip_suffix` reading is slower than plain Rust.
 fn value_in(bytes: &[u8]) -> Option<&[u8; 28]>
     ensures some { IfSome result (λ value. (length value.now ≡ 28) × (bytes.now ≡ opening ++ (value.now ++ closing))) }
@@ -41,7 +48,7 @@ fn value_in(bytes: &[u8]) -> Option<&[u8; 28]>
     let (opening, rest) = whole.split_first_chunk::<VALUE>()?;
     let (value, closing) = rest.split_first_chunk()?;
     let closing = closing.as_array()?;
-    if opening == OPENING && closing == CLOSING {
+    if same(opening, OPENING) && same(closing, CLOSING) {
         Some(value)
     } else {
         None
