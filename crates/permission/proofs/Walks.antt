@@ -1,5 +1,6 @@
 -- What stands at the front of bytes as a term or as members, by the tests that the walk makes.
-use Rattle.std.proofs.Common.{◌≡◌, ℕ, zero, suc, ◌-◌, ◌<◌, Bool, true, false, cond, ◌||◌, leb, List, [], ◌∷◌, Some, None, sym, refl, ap, ◌∙◌, ap₂, arith}
+use Rattle.std.proofs.Common.{◌≡◌, ℕ, zero, suc, ◌-◌, ◌≤◌, ◌<◌, Bool, true, false, cond, ◌||◌, leb, List, [], ◌∷◌, Some, None, sym, refl, ap, ◌∙◌, ap₂, arith}
+use Rattle.std.proofs.lemmas.Bool.Decides.{nat_tests}
 use Rattle.permission.specs.Terms.{Term, Term.set, Members, Members.none, Members.member}
 use Rattle.permission.specs.Reading.{Reading, then, covered, members_in, count_in, set_in, term_in, judged, any_judged}
 use Rattle.permission.proofs.Found.{nothing_is_not_something, same_found}
@@ -8,6 +9,23 @@ use Rattle.permission.proofs.Found.{nothing_is_not_something, same_found}
 set_judged : (name : List ℕ) (reading : Reading Members) → any_judged name reading ≡ judged name (then reading (λ ms. Some (set ms.0, ms.1)))
 set_judged name None = refl
 set_judged name (Some ms) = refl
+
+-- a count that is read, and one that is not
+module _ (bs rest : List ℕ) (n : ℕ) (front : bs ≡ n ∷ rest) where
+  pub a_count : (deep : ℕ) → 0 < deep → n ≤ 8 → Some (n, rest) ≡ count_in deep bs
+  a_count zero some few = absurd (omega arith)
+  a_count (suc deep) some few = let t : leb n 8 ≡ true = grind (arith, nat_tests) in sym (ap (λ b. cond b (Some (n, rest)) None) t) ∙ sym (ap (count_in (suc deep)) front)
+
+  pub no_count : (deep : ℕ) → (0 < deep → n ≤ 8 → ⊥) → None ≡ count_in deep bs
+  no_count zero out = refl
+  no_count (suc deep) out =
+      let many : n ≤ 8 → ⊥ = out (omega arith) in
+      let t : leb n 8 ≡ false = grind (arith, nat_tests) in
+      sym (ap (λ b. cond b (Some (n, rest)) None) t) ∙ sym (ap (count_in (suc deep)) front)
+
+pub no_count_in_nothing : (deep : ℕ) → None ≡ count_in deep []
+no_count_in_nothing zero = refl
+no_count_in_nothing (suc deep) = refl
 
 -- a set is its count and that many members
 module _ (name : List ℕ) where
