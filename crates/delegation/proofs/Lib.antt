@@ -1,3 +1,4 @@
 pub mod Chains
 pub mod Following
 pub mod Walks
+pub mod Words

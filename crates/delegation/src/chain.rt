@@ -10,6 +10,7 @@ ghost use Rattle.machine.specs.Delegation.{may_begin, authorised};
 ghost use Rattle.delegation.specs.Marks.{LeadsTo, leads, applies, names, looked, marked, any_leading, Tells, by_chain};
 ghost use Rattle.delegation.specs.declared.types.Mark.TheVariants.{Untried, Open};
 
+use crate::hashes::is_same;
 use crate::types::{Mark, Question};
 use records::Certificate;
 
@@ -20,8 +21,8 @@ impl Question<'_> {
         ensures { result ≡ names self.now (option_copied next.entry) link.now }
     {
         match next {
-            None => link.subject == *self.signer,
-            Some(next) => link.subject == next.issuer && link.scope.delegate,
+            None => is_same(&link.subject, self.signer),
+            Some(next) => is_same(&link.subject, &next.issuer) && link.scope.delegate,
         }
     }
 

@@ -2,6 +2,7 @@
 #![tactic(auto)]
 
 mod chain;
+mod hashes;
 mod roots;
 mod types;
 
