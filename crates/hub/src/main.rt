@@ -3,7 +3,6 @@
 
 use account::Account;
 use anyhow::anyhow;
-use hexadecimal::Digits;
 use script::play::play;
 use std::io::{Read, Write};
 use std::{env, fs};
@@ -24,8 +23,10 @@ fn input(rt: &HostRuntime) -> anyhow::Result<Vec<u8>> {
 fn report(rt: &HostRuntime, account: &Account) -> anyhow::Result<()> {
     rt.print(account.counts(rt.alloc())?)?;
     for hash in account.repeated(rt.alloc())?.iter() {
-        let digits = Digits { bytes: hash };
-        println!(rt; "# came more than once: {digits}")?;
+        let mut line = Vec::from_slice(rt.alloc(), b"# came more than once: ")?;
+        hexadecimal::push(&mut line, hash)?;
+        line.push(b'\n')?;
+        rt.stdout().write_all(line.as_slice())?;
     }
     Ok(())
 }

@@ -150,7 +150,8 @@ pub fn line(heap: Global, number: u64, reply: &Reply) -> Result<Vec<u8>, AllocEr
 {
     match reply {
         Reply::Hash(hash) => {
-            let mut line = Vec::from_slice(heap, b"hash ")?;
+            let mut line = Vec::new(heap);
+            line.extend_from_slice(b"hash ")?;
             hexadecimal::push(&mut line, hash)?;
             Ok(line)
         }
