@@ -53,8 +53,8 @@ fn repeats_in(heap: Global, sorted: &[[u8; 20]]) -> Result<Vec<[u8; 20]>, AllocE
     Ok(out)
 }
 
-// The hashes that are more than once among some. Two sets, of those seen and of those seen again, say it without an order, but take
-// three times as long and half as much memory again, and on sorted hashes more than one pass.
+// The hashes that are more than once among some. Two sets, of those seen and of those seen again, say it without an order, but look
+// each hash up in a tree; a sort passes once over hashes that come sorted.
 fn repeats_among(heap: Global, hashes: &[[u8; 20]]) -> Result<Vec<[u8; 20]>, AllocError>
     ensures { IfOk result (λ v. ListsEachRepeatedHashOnce hashes.now v.items) }
 {
